@@ -1,6 +1,7 @@
 //! Tells more of what failed, and what to do: for `--explain`.
 //!
-//! Nothing that the program does rests on it. What has a path is looked at once more, so it is told how that stands now.
+//! Nothing that the program does rests on it. What has a path is looked at once more, so it is told how that stands now. Only a file or,
+//! where it may be a store, a block device is read again: what came out of a pipe is gone, and to open one may wait for ever.
 
 use crate::bench::STORE;
 use crate::failure::StoreFailure;
@@ -49,6 +50,9 @@ const TEXT_UNREAD: &str =
     "what has the path of its shape, STORE.json, cannot be read; look at its rights, or move it away";
 
 const A_STORE: &str = "it is a store already; serve that store, or name another path";
+
+const TOO_SHORT: &str =
+    "it has fewer bytes than the store takes; make it longer if all of them are 0, or name another";
 
 const NO_STORE: &str = "what is there is no store";
 
@@ -265,27 +269,22 @@ fn tell_of_shape<E: Write>(
     if begins_as_store(rt, path) {
         return tell(err, format_args!("{path}: {of_store}"));
     }
-    if is_file_empty(rt, path) {
-        return tell(err, format_args!("{path}: {EMPTY_FILE}; {NO_SHAPE}"));
-    }
-    if is_file_cut_off(rt, path) {
-        return tell(err, format_args!("{path}: {CUT_OFF}; {NO_SHAPE}"));
-    }
-    tell(err, format_args!("{path}: {NO_SHAPE}"))
-}
-
-fn is_file_empty(rt: &(impl Files<File = File> + AllocGlobal), path: &str) -> bool {
-    match text_in(rt, path) {
-        Ok(text) => text.is_empty(),
-        Err(_) => false,
+    match text_again(rt, path) {
+        Some(text) if text.is_empty() => {
+            tell(err, format_args!("{path}: {EMPTY_FILE}; {NO_SHAPE}"))
+        }
+        Some(text) if is_cut_off(rt.alloc(), &text) => {
+            tell(err, format_args!("{path}: {CUT_OFF}; {NO_SHAPE}"))
+        }
+        _ => tell(err, format_args!("{path}: {NO_SHAPE}")),
     }
 }
 
-// Whether the text in a file ends too early.
-fn is_file_cut_off(rt: &(impl Files<File = File> + AllocGlobal), path: &str) -> bool {
-    match text_in(rt, path) {
-        Ok(text) => is_cut_off(rt.alloc(), &text),
-        Err(_) => false,
+// The text in a file, which was read before. None where that was no file: a pipe would be empty now, or waited for.
+fn text_again(rt: &(impl Files<File = File> + AllocGlobal), path: &str) -> Option<Vec<u8>> {
+    match fs::metadata(rt, path) {
+        Ok(found) if found.is_file() => text_in(rt, path).ok(),
+        _ => None,
     }
 }
 
@@ -482,13 +481,13 @@ fn tell_geometry<E: Write>(
     if is_store_empty(rt, asked) {
         return tell_of(err, asked, EMPTY_STORE);
     }
+    if matches!(asked, Asked::Init(_)) && is_whole_store(rt, asked) {
+        return tell_of(err, asked, A_STORE);
+    }
     let Some((vars, slots)) = numbers_in(rt, asked, notes) else {
         return tell_cut_off(rt, asked, err);
     };
     match Layout::new(vars, slots) {
-        Ok(_) if matches!(asked, Asked::Init(_)) && is_whole_store(rt, asked) => {
-            tell_of(err, asked, A_STORE)
-        }
         Ok(layout) => match found_in(rt, asked, layout) {
             Some(help) => tell_of(err, asked, help),
             None => tell_of(err, asked, FaultHelp(Fault::Geometry)),
@@ -497,12 +496,15 @@ fn tell_geometry<E: Write>(
     }
 }
 
-// Tells where a store ends too soon of which no numbers were asked.
+// Tells where a store ends too soon of which no numbers were asked, or none that are known still, and of a new one that it has no room.
 fn tell_cut_off<E: Write>(
     rt: &(impl Files<File = File> + AllocGlobal),
     asked: Asked,
     err: &mut E,
 ) -> io::Result<()> {
+    if let Asked::Init(_) = asked {
+        return tell_of(err, asked, TOO_SHORT);
+    }
     if let Some((path, _)) = store_of(asked) {
         if tell_bytes(rt, path, shows(asked), err)? {
             return Ok(());
@@ -538,9 +540,7 @@ fn numbers_of_shape(
     rt: &(impl Files<File = File> + AllocGlobal),
     path: &str,
 ) -> Option<(u16, u16)> {
-    let Ok(text) = text_in(rt, path) else {
-        return None;
-    };
+    let text = text_again(rt, path)?;
     match StoreShape::from_slice(rt.alloc(), &text) {
         Ok(shape) => Some((shape.vars, shape.slots)),
         Err(_) => None,
