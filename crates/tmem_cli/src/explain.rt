@@ -51,6 +51,9 @@ const TEXT_UNREAD: &str =
 
 const A_STORE: &str = "it is a store already; serve that store, or name another path";
 
+const CUT_STORE: &str =
+    "it begins as a store and was cut off; restore a copy of it, or move it away and make the store anew, or name another path";
+
 const TOO_SHORT: &str =
     "it has fewer bytes than the store takes; make it longer if all of them are 0, or name another";
 
@@ -190,13 +193,9 @@ fn explain_store_failure<E: Write>(
         StoreFailure::NotMade(InitError::StoreIsThere) if is_block_device(rt, asked) => {
             tell_of(err, asked, A_DEVICE)
         }
-        StoreFailure::NotMade(InitError::StoreIsThere) if is_store(rt, asked) => {
-            tell_of(err, asked, A_STORE)
-        }
+        StoreFailure::NotMade(InitError::StoreIsThere | InitError::NotBlank)
+            if is_store(rt, asked) => { tell_store(rt, asked, err) }
         StoreFailure::NotMade(InitError::StoreIsThere) => tell_no_store(rt, asked, err),
-        StoreFailure::NotMade(InitError::NotBlank) if is_store(rt, asked) => {
-            tell_of(err, asked, A_STORE)
-        }
         StoreFailure::NotMade(InitError::NotBlank) => tell_of(err, asked, NOT_BLANK),
         StoreFailure::NotMade(InitError::TextUnread(_)) => tell_of(err, asked, TEXT_UNREAD),
         StoreFailure::NotMade(InitError::TextIsThere) => tell_of(err, asked, OTHER_TEXT),
@@ -204,6 +203,20 @@ fn explain_store_failure<E: Write>(
         StoreFailure::Input => tell(err, NO_INPUT),
         StoreFailure::NotServed(ServeError::Ended(DeskFailure::Output)) => tell(err, NO_OUTPUT),
     }
+}
+
+// Tells what to do with a store where one was to be made.
+fn tell_store<E: Write>(
+    rt: &(impl Files<File = File> + AllocGlobal),
+    asked: Asked,
+    err: &mut E,
+) -> io::Result<()> {
+    let text = if is_whole_store(rt, asked) {
+        A_STORE
+    } else {
+        CUT_STORE
+    };
+    tell_of(err, asked, text)
 }
 
 // Tells what is there where a store was to be made and none is.
@@ -481,8 +494,8 @@ fn tell_geometry<E: Write>(
     if is_store_empty(rt, asked) {
         return tell_of(err, asked, EMPTY_STORE);
     }
-    if matches!(asked, Asked::Init(_)) && is_whole_store(rt, asked) {
-        return tell_of(err, asked, A_STORE);
+    if matches!(asked, Asked::Init(_)) && is_store(rt, asked) {
+        return tell_store(rt, asked, err);
     }
     let Some((vars, slots)) = numbers_in(rt, asked, notes) else {
         return tell_cut_off(rt, asked, err);
