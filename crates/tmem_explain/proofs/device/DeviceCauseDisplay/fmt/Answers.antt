@@ -5,7 +5,7 @@ use Rattle.tmem_explain.proofs.device.DeviceCauseDisplay.fmt.Goals.{in-Empty, in
 -- Each text is written as it stands. (There are more of them than a search goes through at once.)
 pub returns-clause-writes : goal.returns-clause-writes
 returns-clause-writes g c = elim c.match-self.branch [
-    in-Empty w ↦ search rules
+  | in-Empty w ↦ search rules
   | in-Locked w ↦ search rules
   | in-Folder w ↦ search rules
   | in-NoFile w ↦ search rules
