@@ -30,12 +30,15 @@ use tmem_show::{Source, refusal_of};
 const NO_OUTPUT: &str =
     "standard output took no more; look whether its reader has ended, and for room";
 
+const NO_ANSWERS: &str =
+    "standard output took no more; look whether its reader has ended, and for room; requests without an answer may be done: see what the store has before any is repeated";
+
 const NO_INPUT: &str = "standard input could not be read";
 
 const NO_CLOCK: &str = "the system did not tell the time; try again";
 
 const NOT_REGISTERED: &str =
-    "either the store was made before the shape had it: serve it with a shape in which it lacks always, let a transaction check it, and try again; or something changed the file (look by tmem show PATH): restore a copy";
+    "copy the file first, and see how many transactions tmem show PATH tells; if some are missing, something changed it: restore a copy; only if it was made before the shape had this invariant, serve it with a shape in which it lacks always, let a transaction check it, and try again";
 
 const EMPTY_FILE: &str = "the file is empty";
 
@@ -55,7 +58,7 @@ const CUT_STORE: &str =
     "it begins as a store and was cut off; restore a copy of it, or move it away and make the store anew, or name another path";
 
 const TOO_SHORT: &str =
-    "it has fewer bytes than the store takes; make it longer if all of them are 0, or name another";
+    "it has fewer bytes than the store takes; if a store was there, restore a copy; else make it longer if all of them are 0, or name another";
 
 const NO_STORE: &str = "what is there is no store";
 
@@ -201,7 +204,7 @@ fn explain_store_failure<E: Write>(
         StoreFailure::NotMade(InitError::TextIsThere) => tell_of(err, asked, OTHER_TEXT),
         StoreFailure::NotServed(ServeError::Unregistered(_)) => tell(err, NOT_REGISTERED),
         StoreFailure::Input => tell(err, NO_INPUT),
-        StoreFailure::NotServed(ServeError::Ended(DeskFailure::Output)) => tell(err, NO_OUTPUT),
+        StoreFailure::NotServed(ServeError::Ended(DeskFailure::Output)) => tell(err, NO_ANSWERS),
     }
 }
 

@@ -70,13 +70,13 @@ call_help call.NoRoom = codes "there is no room on its file system, or no quota 
 call_help call.LongName = codes "the path or its last part is too long; name one whose last part has at most 250 bytes, for init 245 (STORE.json)"
 call_help call.Limit = codes "this process may not write a file so long (ulimit -f); raise that limit, and run the program again"
 call_help call.Circle = codes "links on this path lead in a circle; mend them, or name the file"
-call_help call.DiskError = codes "the disk reports an error (EIO); look into the system's log (dmesg), and restore a copy on another disk"
+call_help call.DiskError = codes "the disk reports an error (EIO); look into the system's log (dmesg), copy what can still be read, and restore a copy on another disk"
 call_help call.Other = codes "a call on it failed, for a reason that this look does not show; look at its rights, at room (df), at limits (ulimit -f, ulimit -n), whether the device is read-only, and into the system's log (dmesg)"
 
 -- why a file could not be used, and what to do
 abbrev pub device_help : DeviceCause → List ℕ
 device_help cause.Empty = codes "the path is empty; name a file"
-device_help cause.Locked = codes "another program has it open (fuser or lsof says which); wait until that ends, or end it"
+device_help cause.Locked = codes "another program has it open (fuser or lsof says which); wait until that ends, or end it if it is not wanted"
 device_help cause.Folder = codes "it is a folder; name a file"
 device_help cause.NoFile = codes "it is no file and no block device; name one"
 device_help cause.Missing = codes "nothing has this path; check it"

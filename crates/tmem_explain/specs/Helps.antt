@@ -14,13 +14,13 @@ fault_help fault.Memory = codes "memory did not suffice, or no thread could be s
 fault_help fault.Device = codes "a call on the file failed; look at its rights, at room (df), at limits (ulimit -f, ulimit -n), whether the device is read-only, and into the system's log (dmesg); then open the store again, and see what it has before anything is repeated"
 fault_help fault.Closed = codes "an earlier failure has closed the store: a call on its file failed, or it could not be opened again; mend that, open the store again, and see what it has before anything is repeated"
 fault_help fault.Unknown =
-    codes "the device failed; of a flush, all of the batch is durable, or none of it; a checkpoint puts no transaction in doubt; open the store again, after an error of the disk once the machine was started anew, and it says how many transactions there are"
+    codes "a write or sync failed; of a flush, all of the batch is durable, or none of it; a checkpoint puts no transaction in doubt; repeat nothing yet: open the store again, after an error of the disk (dmesg) once the machine was started anew, and see how many transactions there are"
 fault_help fault.Full = codes "256 transactions wait to be durable; flush, and settle again"
 fault_help fault.LogFull = codes "every slot of the log is used; make a checkpoint, and flush again"
 fault_help fault.Conflict = codes "a value that the transaction read has changed; begin it again"
 fault_help fault.NotFormatted = codes "this does not begin as a store; check the path, and restore a copy only if a store was there"
 fault_help fault.Damaged =
-    codes "the file is not as tmem leaves one: something else changed it, or a later version of tmem wrote it; run that version, or else move the file away and put a copy in its place (nothing repairs it)"
+    codes "the file is not as tmem leaves one: something else changed it, or a later version of tmem wrote it; run that version, or else move the file away and put a copy in its place (nothing repairs it, and what the copy lacks is lost)"
 fault_help (fault.Missing name) =
     codes "the invariant " ++ name ++ codes " is registered in the store, and the program or shape has none of this name; open the store with the one that it belongs to"
 fault_help (fault.Broken name) =
@@ -28,7 +28,7 @@ fault_help (fault.Broken name) =
 fault_help (fault.BadPlan c) = cause_text c ++ codes "; change the transaction"
 fault_help fault.BadName = codes "a name is not 1 to 16 letters from a to z, or stands twice, or there are more than 64; change the program"
 fault_help fault.BadFootprint = codes "an invariant is over no variable, over more than 16, over one twice, or over one that the store lacks (they count from 0); correct that invariant"
-fault_help fault.Spent = codes "the count of transactions or of images is at 2^64 - 1, to which no use comes, so something changed the file; make a new store of the values that tmem show PATH tells, or restore a copy that has all its transactions"
+fault_help fault.Spent = codes "the count of transactions or of images is at 2^64 - 1, to which no use comes, so something changed the file; restore a copy that has all its transactions, or make a new store of the values that tmem show PATH tells"
 fault_help fault.NoSeat = codes "all 32 passes were given out; keep passes, or borrow them of the pool"
 fault_help fault.Geometry =
     codes "the numbers of variables and log slots that were asked for are out of limits (1 to 1024, 2 to 64) or not the store's own, or its file was cut off; state those that tmem show PATH prints, or put a copy of the file in its place"
@@ -49,11 +49,11 @@ numbers_help (numbers.Limits vars slots) =
     codes "a store has 1 to 1024 variables and 2 to 64 log slots, and " ++ (decimal vars ++ (codes " and " ++ (decimal slots ++ codes " were asked for")))
 numbers_help (numbers.Other vars slots had_vars had_slots) =
     codes "the store has " ++ (decimal had_vars ++ (codes " variables and " ++ (decimal had_slots ++ (codes " log slots, and " ++ (decimal vars
-    ++ (codes " and " ++ (decimal slots ++ codes " were asked for; state its own")))))))
+    ++ (codes " and " ++ (decimal slots ++ codes " were asked for; state its own (if those were its own before, something changed the file: restore a copy)")))))))
 numbers_help (numbers.Short vars slots has wants) =
     codes "it has " ++ (decimal has ++ (codes " bytes, and a store of " ++ (decimal vars ++ (codes " variables and " ++ (decimal slots ++ (codes " log slots has "
     ++ (decimal wants ++ codes "; check the path, or restore a copy")))))))
 numbers_help (numbers.NoRoom has wants) =
-    codes "it has " ++ (decimal has ++ (codes " bytes, and the store takes " ++ (decimal wants ++ codes "; make it at least so long, or name another")))
+    codes "it has " ++ (decimal has ++ (codes " bytes, and the store takes " ++ (decimal wants ++ codes "; if a store was there, restore a copy; else make it at least so long, or name another")))
 numbers_help (numbers.NotBlank has wants) =
     codes "it has " ++ (decimal has ++ (codes " bytes, not all of them 0, and the store takes " ++ (decimal wants ++ codes "; name another")))

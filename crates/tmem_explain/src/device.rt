@@ -111,7 +111,7 @@ impl fmt::Display for CallCause {
                 "this process may not write a file so long (ulimit -f); raise that limit, and run the program again",
             CallCause::Circle => "links on this path lead in a circle; mend them, or name the file",
             CallCause::DiskError =>
-                "the disk reports an error (EIO); look into the system's log (dmesg), and restore a copy on another disk",
+                "the disk reports an error (EIO); look into the system's log (dmesg), copy what can still be read, and restore a copy on another disk",
             CallCause::Other =>
                 "a call on it failed, for a reason that this look does not show; look at its rights, at room (df), at limits (ulimit -f, ulimit -n), whether the device is read-only, and into the system's log (dmesg)",
         })
@@ -128,7 +128,7 @@ impl fmt::Display for DeviceCause {
         let text = match self {
             DeviceCause::Empty => "the path is empty; name a file",
             DeviceCause::Locked =>
-                "another program has it open (fuser or lsof says which); wait until that ends, or end it",
+                "another program has it open (fuser or lsof says which); wait until that ends, or end it if it is not wanted",
             DeviceCause::Folder => "it is a folder; name a file",
             DeviceCause::NoFile => "it is no file and no block device; name one",
             DeviceCause::Missing => "nothing has this path; check it",

@@ -29,7 +29,7 @@ impl fmt::Display for FaultHelp {
             ),
             Fault::Unknown => write!(
                 f,
-                "the device failed; of a flush, all of the batch is durable, or none of it; a checkpoint puts no transaction in doubt; open the store again, after an error of the disk once the machine was started anew, and it says how many transactions there are"
+                "a write or sync failed; of a flush, all of the batch is durable, or none of it; a checkpoint puts no transaction in doubt; repeat nothing yet: open the store again, after an error of the disk (dmesg) once the machine was started anew, and see how many transactions there are"
             ),
             Fault::Full => write!(
                 f,
@@ -49,7 +49,7 @@ impl fmt::Display for FaultHelp {
             ),
             Fault::Damaged => write!(
                 f,
-                "the file is not as tmem leaves one: something else changed it, or a later version of tmem wrote it; run that version, or else move the file away and put a copy in its place (nothing repairs it)"
+                "the file is not as tmem leaves one: something else changed it, or a later version of tmem wrote it; run that version, or else move the file away and put a copy in its place (nothing repairs it, and what the copy lacks is lost)"
             ),
             Fault::Missing(name) => write!(
                 f,
@@ -70,7 +70,7 @@ impl fmt::Display for FaultHelp {
             ),
             Fault::Spent => write!(
                 f,
-                "the count of transactions or of images is at 2^64 - 1, to which no use comes, so something changed the file; make a new store of the values that tmem show PATH tells, or restore a copy that has all its transactions"
+                "the count of transactions or of images is at 2^64 - 1, to which no use comes, so something changed the file; restore a copy that has all its transactions, or make a new store of the values that tmem show PATH tells"
             ),
             Fault::NoSeat => write!(
                 f,

@@ -102,7 +102,7 @@ impl fmt::Display for NumbersHelp {
                 had_slots,
             } => write!(
                 f,
-                "the store has {had_vars} variables and {had_slots} log slots, and {vars} and {slots} were asked for; state its own"
+                "the store has {had_vars} variables and {had_slots} log slots, and {vars} and {slots} were asked for; state its own (if those were its own before, something changed the file: restore a copy)"
             ),
             NumbersHelp::Short {
                 vars,
@@ -115,7 +115,7 @@ impl fmt::Display for NumbersHelp {
             ),
             NumbersHelp::NoRoom { has, wants } => write!(
                 f,
-                "it has {has} bytes, and the store takes {wants}; make it at least so long, or name another"
+                "it has {has} bytes, and the store takes {wants}; if a store was there, restore a copy; else make it at least so long, or name another"
             ),
             NumbersHelp::NotBlank { has, wants } => write!(
                 f,
