@@ -30,6 +30,9 @@ use tmem_show::{Source, refusal_of};
 const NO_OUTPUT: &str =
     "standard output took no more; look whether its reader has ended, and for room";
 
+const NO_LINES: &str =
+    "standard output took no more; look whether its reader has ended, and for room; what was not told may be done: see what the store has before any is repeated";
+
 const NO_ANSWERS: &str =
     "standard output took no more; look whether its reader has ended, and for room; requests without an answer may be done: see what the store has before any is repeated";
 
@@ -38,7 +41,7 @@ const NO_INPUT: &str = "standard input could not be read";
 const NO_CLOCK: &str = "the system did not tell the time; try again";
 
 const NOT_REGISTERED: &str =
-    "copy the file first, and see how many transactions tmem show PATH tells; if some are missing, something changed it: restore a copy; only if it was made before the shape had this invariant, serve it with a shape in which it lacks always, let a transaction check it, and try again";
+    "if it should have transactions that tmem show PATH does not tell, something changed the file: restore a copy (this opening may have closed slots of its log); only if it was made before the shape had this invariant, serve it with a shape in which it lacks always, let a transaction check it, and try again";
 
 const EMPTY_FILE: &str = "the file is empty";
 
@@ -125,6 +128,15 @@ fn shows(asked: Asked) -> bool {
     matches!(asked, Asked::Show(_))
 }
 
+// Whether transactions are made durable in a file.
+fn changes_store(asked: Asked) -> bool {
+    match asked {
+        Asked::Run(paths) => paths.disk.is_some(),
+        Asked::Threads(counting) => counting.disk.is_some(),
+        _ => false,
+    }
+}
+
 fn explain_failure<E: Write>(
     rt: &(impl Files<File = File> + AllocGlobal),
     asked: Asked,
@@ -140,6 +152,7 @@ fn explain_failure<E: Write>(
         ProgramFailure::Script(ScriptError::Unreadable) => tell_unread(rt, asked, err),
         ProgramFailure::Script(ScriptError::Memory(_)) => tell(err, FaultHelp(Fault::Memory)),
         ProgramFailure::Refused(fault) => tell_refused(rt, asked, notes, *fault, err),
+        ProgramFailure::Output if changes_store(asked) => tell(err, NO_LINES),
         ProgramFailure::Output => tell(err, NO_OUTPUT),
         ProgramFailure::Clock => tell(err, NO_CLOCK),
         ProgramFailure::Words(_) => Ok(()),
@@ -234,7 +247,9 @@ fn tell_no_store<E: Write>(
     match cause_of(rt, path, Wanted::Read, 0) {
         DeviceCause::Call(CallCause::Other) => tell(
             err,
-            format_args!("{path}: {NO_STORE}; move it away, or name another path"),
+            format_args!(
+                "{path}: {NO_STORE}; if a store was there, restore a copy; else move it away, or name another path"
+            ),
         ),
         DeviceCause::Call(cause) => tell(err, format_args!("{path}: {UNSEEN}: {cause}")),
         cause => tell(err, format_args!("{path}: {NO_STORE}: {cause}")),
