@@ -309,7 +309,7 @@ fn move_all<F: Moving + Sync, R: Threads + Wait + Sync>(
         rt,
         alloc,
         THREADS,
-        &|place| store.send(rt, alloc, Transfer::of(place)),
+        &|index| store.send(rt, alloc, Transfer::of(index)),
     )?;
     let mut moved = 0u64;
     for sent in all {

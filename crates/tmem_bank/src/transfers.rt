@@ -24,8 +24,8 @@ impl Transfer {
     }
 
     /// One from account 0 to 1, two from 1 to 2, three from 2 to 3, four from 3 to 0, and so on.
-    pub fn of(place: usize) -> Transfer {
-        let from = (place % 4) as u16;
+    pub fn of(index: usize) -> Transfer {
+        let from = (index % 4) as u16;
         Transfer::new(from, (from + 1) % 4, from as i64 + 1)
     }
 

@@ -74,12 +74,12 @@ pub fn removed<R: Files<File = File>, X: Drop>(
 /// What a new device does by two syncs alone, for so long: write, sync, write, sync, again and again.
 pub fn two_syncs<R: Clock + Files<File = File> + AllocGlobal>(
     rt: &R,
-    place: Medium<'_>,
+    medium: Medium<'_>,
     time: Duration,
 ) -> Result<Figures, BenchError>
     ensures { IfOk result (λ had. had.work ≡ SyncTwice) }
 {
-    match place {
+    match medium {
         Medium::Memory => sync_on(rt, SimDisk::new(rt.alloc(), SYNCED_BYTES as u64)?, time),
         Medium::File(path) => {
             let disk = new_file(rt, path, SYNCED_BYTES as u64)?;

@@ -168,23 +168,23 @@ pub const LOOSE_JOBS: usize = 4;
 
 impl Job {
     /// The jobs, in the order of the table.
-    pub fn at(place: usize, time: Duration) -> Job
+    pub fn at(index: usize, time: Duration) -> Job
         ensures { result.time ≡ time }
     {
         Job {
-            act: ACTS[place / 5 % 4],
-            callers: CALLERS[place % 5],
+            act: ACTS[index / 5 % 4],
+            callers: CALLERS[index % 5],
             time,
         }
     }
 
     /// The jobs in memory alone.
-    pub fn loose_at(place: usize, time: Duration) -> Job
+    pub fn loose_at(index: usize, time: Duration) -> Job
         ensures { result.time ≡ time }
     {
         Job {
-            act: LOOSE_ACTS[place / 2 % 2],
-            callers: LOOSE_CALLERS[place % 2],
+            act: LOOSE_ACTS[index / 2 % 2],
+            callers: LOOSE_CALLERS[index % 2],
             time,
         }
     }

@@ -57,8 +57,8 @@ impl JobsWanted<'_> {
         Duration::from_micros(u64::from(self.millis) * 250)
     }
 
-    // Which lines are wanted: from this place in the table up to that one.
-    fn places(self) -> (usize, usize)
+    // Which lines are wanted: from this index in the table up to that one.
+    fn indices(self) -> (usize, usize)
         ensures many { result.1 ≡ result.0 + lines_wanted self.entry.job }
         ensures most { result.1 ≤ 48 }
         ensures last { IfSome self.entry.job (λ job. 1 ≤ job → job ≤ 48 → result.1 ≡ job) }
@@ -66,8 +66,8 @@ impl JobsWanted<'_> {
         match self.job {
             None => (0, LINES),
             Some(job) => {
-                let place = usize::from(job).saturating_sub(1);
-                let first = if place < LINES { place } else { LINES - 1 };
+                let index = usize::from(job).saturating_sub(1);
+                let first = if index < LINES { index } else { LINES - 1 };
                 (first, first + 1)
             }
         }
@@ -88,9 +88,9 @@ pub fn run_jobs<R: Clock + Files<File = File> + AllocGlobal + Threads + Wait + S
 {
     two_syncs(rt, Medium::File(wanted.path), wanted.sync_time())?;
     print_line(out, HEAD)?;
-    let (first, end) = wanted.places();
-    for place in first..end {
-        let text = line_at(rt, wanted, place)?;
+    let (first, end) = wanted.indices();
+    for index in first..end {
+        let text = line_at(rt, wanted, index)?;
         print_line(out, text.as_str())?;
     }
     Ok(())
@@ -107,21 +107,21 @@ fn print_line<W: Write>(out: &mut W, text: &str) -> Result<(), BenchError>
 fn line_at<R: Clock + Files<File = File> + AllocGlobal + Threads + Wait + Sync>(
     rt: &R,
     wanted: JobsWanted<'_>,
-    place: usize,
+    index: usize,
 ) -> Result<String, BenchError> {
     let (file, time, sync_time) = (Medium::File(wanted.path), wanted.time(), wanted.sync_time());
-    match place {
+    match index {
         0 => line_of_core(rt, Act::Add, time),
         1 => line_of_core(rt, Act::Transfer, time),
         2 => line_of_core(rt, Act::WideMany, time),
-        3..23 => line_of_job(rt, Medium::Memory, Job::at(place - 3, time), sync_time),
+        3..23 => line_of_job(rt, Medium::Memory, Job::at(index - 3, time), sync_time),
         23..27 => line_of_job(
             rt,
             Medium::Memory,
-            Job::loose_at(place - 23, time),
+            Job::loose_at(index - 23, time),
             sync_time,
         ),
-        27..47 => line_of_job(rt, file, Job::at(place - 27, time), sync_time),
+        27..47 => line_of_job(rt, file, Job::at(index - 27, time), sync_time),
         _ => line_of_openings(rt, wanted.path, time),
     }
 }
@@ -155,13 +155,13 @@ fn run_on_core_alone<R: Clock + AllocGlobal + Threads + Wait + Sync>(
 // A job on a device.
 fn line_of_job<R: Clock + Files<File = File> + AllocGlobal + Threads + Wait + Sync>(
     rt: &R,
-    place: Medium<'_>,
+    medium: Medium<'_>,
     job: Job,
     sync_time: Duration,
 ) -> Result<String, BenchError> {
-    let (had, baseline) = run_beside_syncs(rt, place, job, sync_time)?;
+    let (had, baseline) = run_beside_syncs(rt, medium, job, sync_time)?;
     let line = Line {
-        device: place.name(),
+        device: medium.name(),
         callers: job.callers,
         had,
         baseline,
@@ -172,21 +172,21 @@ fn line_of_job<R: Clock + Files<File = File> + AllocGlobal + Threads + Wait + Sy
 // Runs a job on a new device. One that makes a file durable runs between two loops of syncs, each for so long, with which it is compared.
 fn run_beside_syncs<R: Clock + Files<File = File> + AllocGlobal + Threads + Wait + Sync>(
     rt: &R,
-    place: Medium<'_>,
+    medium: Medium<'_>,
     job: Job,
     sync_time: Duration,
 ) -> Result<(Figures, Option<Figures>), BenchError>
     ensures work { IfOk result (λ told. told.0.work ≡ OnStore job.act) }
-    ensures compared { place.entry ≢ Memory → job.act ≢ Look → IfOk result (λ told. IsSomeAnd told.1 (λ other. other.work ≡ SyncTwice)) }
-    ensures alone { (place.entry ≡ Memory) ⊎ (job.act ≡ Look) → IfOk result (λ told. told.1 ≡ None) }
+    ensures compared { medium.entry ≢ Memory → job.act ≢ Look → IfOk result (λ told. IsSomeAnd told.1 (λ other. other.work ≡ SyncTwice)) }
+    ensures alone { (medium.entry ≡ Memory) ⊎ (job.act ≡ Look) → IfOk result (λ told. told.1 ≡ None) }
 {
-    let (had, baseline) = if place.is_file() && job.act != Act::Look {
-        let before = two_syncs(rt, place, sync_time)?;
-        let had = run(rt, place, job)?;
-        let after = two_syncs(rt, place, sync_time)?;
+    let (had, baseline) = if medium.is_file() && job.act != Act::Look {
+        let before = two_syncs(rt, medium, sync_time)?;
+        let had = run(rt, medium, job)?;
+        let after = two_syncs(rt, medium, sync_time)?;
         (had, Some(before.with(after)))
     } else {
-        (run(rt, place, job)?, None)
+        (run(rt, medium, job)?, None)
     };
     Ok((had, baseline))
 }
@@ -194,13 +194,13 @@ fn run_beside_syncs<R: Clock + Files<File = File> + AllocGlobal + Threads + Wait
 // Runs a job on a new device.
 fn run<R: Clock + Files<File = File> + AllocGlobal + Threads + Wait + Sync>(
     rt: &R,
-    place: Medium<'_>,
+    medium: Medium<'_>,
     job: Job,
 ) -> Result<Figures, BenchError>
     ensures { IfOk result (λ had. had.work ≡ OnStore job.act) }
 {
     let size = Layout::new(VARS, SLOTS)?.end();
-    match place {
+    match medium {
         Medium::Memory => run_in(rt, SimDisk::new(rt.alloc(), size)?, job),
         Medium::File(path) => {
             let disk = new_file(rt, path, size)?;

@@ -148,9 +148,9 @@ fn fill_by<D: Disk + Drop, N: StoreNaming, T: Invariants + Drop, S: StoredSteps 
     front: &Front<D, N, T, S>,
     pass: &mut Pass<N>,
 ) -> Result<(), Fault> {
-    for place in 0..SLOTS * RECORDS {
-        settle_once(rt, front, pass, put(alloc, place % MANY, 1)?)?;
-        if place % RECORDS == RECORDS - 1 {
+    for index in 0..SLOTS * RECORDS {
+        settle_once(rt, front, pass, put(alloc, index % MANY, 1)?)?;
+        if index % RECORDS == RECORDS - 1 {
             front.flush_once(rt)?;
         }
     }

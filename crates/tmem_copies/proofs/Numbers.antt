@@ -10,11 +10,11 @@ use Rattle.tmem_copies.specs.Leading.{is_puts, first_puts, first_puts_in}
 use Rattle.tmem_copies.specs.Numbering.{with_numbers_from, with_numbers}
 
 -- one number more
-with_numbers_from-push : (place : ℕ) (ns : List ℤ) (n : ℤ) (tx : Tx) → with_numbers_from place (ns ++ n ∷ []) tx ≡ with_number (place + length ns) n (with_numbers_from place ns tx)
-with_numbers_from-push place [] n tx = ap (λ (k : ℕ). with_number k n tx) (omega arith)
-with_numbers_from-push place (m ∷ ms) n tx =
-    with_numbers_from-push (suc place) ms n (with_number place m tx)
-    ∙ ap (λ (k : ℕ). with_number k n (with_numbers_from (suc place) ms (with_number place m tx))) (omega arith)
+with_numbers_from-push : (index : ℕ) (ns : List ℤ) (n : ℤ) (tx : Tx) → with_numbers_from index (ns ++ n ∷ []) tx ≡ with_number (index + length ns) n (with_numbers_from index ns tx)
+with_numbers_from-push index [] n tx = ap (λ (k : ℕ). with_number k n tx) (omega arith)
+with_numbers_from-push index (m ∷ ms) n tx =
+    with_numbers_from-push (suc index) ms n (with_number index m tx)
+    ∙ ap (λ (k : ℕ). with_number k n (with_numbers_from (suc index) ms (with_number index m tx))) (omega arith)
 
 pub with_numbers-push : (ns : List ℤ) (n : ℤ) (tx : Tx) → with_numbers (ns ++ n ∷ []) tx ≡ with_number (length ns) n (with_numbers ns tx)
 with_numbers-push ns n tx = with_numbers_from-push 0 ns n tx ∙ ap (λ (k : ℕ). with_number k n (with_numbers ns tx)) (omega arith)
@@ -31,16 +31,16 @@ sets-push l ns n = sets_push l 0 ns n ∙ ap (λ (k : ℕ). set (sets l 0 ns) k 
 pub sets_first : (l ns : List ℤ) → length ns ≤ length l → sets l 0 ns ≡ ns ++ drop (length ns) l
 sets_first l ns few = sets-eq ns l 0 (omega (arith, few)) ∙ ap (λ (k : ℕ). ns ++ drop k l) (omega arith)
 
--- the next number of a list is taken, at its place
-pub tree_more : (place : ℕ) (ns : List ℤ) (n d : ℤ) (old tx new : Tx) → place < length ns → n ≡ get_or ns place d → tx ≡ with_numbers (take place ns) old → new ≡ with_number place n tx → new ≡ with_numbers (take (place + 1) ns) old
-tree_more place ns n d old tx new there is so_far next =
-    next ∙ ap (with_number place n) so_far ∙ ap (λ (k : ℕ). with_number k n (with_numbers (take place ns) old)) (sym (length-take-le place ns (omega (arith, there))))
-    ∙ sym (with_numbers-push (take place ns) n old) ∙ ap (λ (m : ℤ). with_numbers (take place ns ++ m ∷ []) old) is ∙ ap (λ (l : List ℤ). with_numbers l old) (sym (take_more ns place d there))
+-- the next number of a list is taken, at its index
+pub tree_more : (index : ℕ) (ns : List ℤ) (n d : ℤ) (old tx new : Tx) → index < length ns → n ≡ get_or ns index d → tx ≡ with_numbers (take index ns) old → new ≡ with_number index n tx → new ≡ with_numbers (take (index + 1) ns) old
+tree_more index ns n d old tx new there is so_far next =
+    next ∙ ap (with_number index n) so_far ∙ ap (λ (k : ℕ). with_number k n (with_numbers (take index ns) old)) (sym (length-take-le index ns (omega (arith, there))))
+    ∙ sym (with_numbers-push (take index ns) n old) ∙ ap (λ (m : ℤ). with_numbers (take index ns ++ m ∷ []) old) is ∙ ap (λ (l : List ℤ). with_numbers l old) (sym (take_more ns index d there))
 
-pub list_more : (place : ℕ) (ns : List ℤ) (n d : ℤ) (old xs new : List ℤ) → place < length ns → n ≡ get_or ns place d → xs ≡ sets old 0 (take place ns) → new ≡ set xs place n → new ≡ sets old 0 (take (place + 1) ns)
-list_more place ns n d old xs new there is so_far next =
-    next ∙ ap (λ (l : List ℤ). set l place n) so_far ∙ ap (λ (k : ℕ). set (sets old 0 (take place ns)) k n) (sym (length-take-le place ns (omega (arith, there))))
-    ∙ sym (sets-push old (take place ns) n) ∙ ap (λ (m : ℤ). sets old 0 (take place ns ++ m ∷ [])) is ∙ ap (λ (l : List ℤ). sets old 0 l) (sym (take_more ns place d there))
+pub list_more : (index : ℕ) (ns : List ℤ) (n d : ℤ) (old xs new : List ℤ) → index < length ns → n ≡ get_or ns index d → xs ≡ sets old 0 (take index ns) → new ≡ set xs index n → new ≡ sets old 0 (take (index + 1) ns)
+list_more index ns n d old xs new there is so_far next =
+    next ∙ ap (λ (l : List ℤ). set l index n) so_far ∙ ap (λ (k : ℕ). set (sets old 0 (take index ns)) k n) (sym (length-take-le index ns (omega (arith, there))))
+    ∙ sym (sets-push old (take index ns) n) ∙ ap (λ (m : ℤ). sets old 0 (take index ns ++ m ∷ [])) is ∙ ap (λ (l : List ℤ). sets old 0 l) (sym (take_more ns index d there))
 
 -- of the first list, or of both
 few_of : (b : Bool) (m n : ℕ) (xs ys : List ℤ) → m ≤ length xs → n ≤ length ys → (if b then m + n else m) ≤ length (xs ++ ys)

@@ -17,7 +17,7 @@ pub fn set_numbers(plan: &mut Plan, numbers: &[i64])
     ensures variables { (vars : ℕ) → FitsVariables vars plan.old → FitsVariables vars plan.new }
     ensures names { (names : List (List ℕ)) → FitsNames names plan.old.tree → FitsNames names plan.new.tree }
 {
-    for (place, number) in numbers.iter().enumerate() {
-        let _ = plan.set_number(place, *number);
+    for (index, number) in numbers.iter().enumerate() {
+        let _ = plan.set_number(index, *number);
     }
 }

@@ -1,4 +1,4 @@
--- A ring whose places are made as they are first used.
+-- A ring whose entries are made as they are first used.
 use Rattle.std.proofs.Common.{◌≡◌, ℕ, ◌+◌, ◌-◌, ◌%◌, ◌<◌, ◌≤◌, ◌^◌, ◌⊎◌, List, [], ◌∷◌, ◌++◌, length, get_or, drop, set, ap, sym, ◌∙◌, subst, inl, inr, mod-lt, mod-eq_of_lt, arith, length-append, length-drop, length-set}
 use Rattle.std.specs.Prelude.{slice_get, Some}
 use Rattle.std.proofs.lemmas.Bool.{cases_lt}
@@ -6,7 +6,7 @@ use Rattle.tmem_core.specs.Ring.{IsRing}
 use Rattle.tmem_core.proofs.Windows.{window, length-window, slice_get-window, window-push, window-later, window-end, slice_get-end, window-made, window-end-later}
 
 module _ {X : Type 0} (xs : List X) (capacity k n : ℕ) (ring : IsRing xs capacity k n) where
-  -- all places are made, or those up to the last one in use, and there the ring has not gone around
+  -- all entries are made, or those up to the last one in use, and there the ring has not gone around
   kind : (length xs ≡ 256) ⊎ ((k + n ≡ length xs) × (length xs < 256))
   kind = elim ring.made [
     | inl full ↦ inl full
@@ -22,7 +22,7 @@ module _ {X : Type 0} (xs : List X) (capacity k n : ℕ) (ring : IsRing xs capac
     | inr it ↦ ap length (window-end k n xs it.0) ∙ length-drop k xs ∙ omega (arith, it.0)
   ]
 
-  -- the place of one in use is made
+  -- the entry of one in use is made
   pub made-ring : (i : ℕ) → i < n → (k + i) % 256 < length xs
   made-ring i below = elim kind [
     | inl full ↦ subst (λ (m : ℕ). (k + i) % 256 < m) (sym full) (mod-lt (k + i) (omega arith))
@@ -64,7 +64,7 @@ module _ {X : Type 0} (xs : List X) (capacity k n : ℕ) (ring : IsRing xs capac
     ];
   }
 
-  -- one more in use, whose place is there
+  -- one more in use, whose entry is there
   pub ring-there : (x : X) → n < 256 → (k + n) % 256 < length xs → window k (n + 1) (set xs ((k + n) % 256) x) ≡ window k n xs ++ x ∷ []
   ring-there x room there = elim kind [
     | inl full ↦ window-push 256 k n xs ring.begins ring.fits full x room

@@ -1,4 +1,4 @@
--- The part of a ring that is in use: so many places from a start on, around the end.
+-- The part of a ring that is in use: so many entries from a start on, around the end.
 use Rattle.std.proofs.Common.{◌≡◌, ℕ, ◌+◌, ◌-◌, ◌%◌, ◌<◌, ◌≤◌, ◌⊎◌, List, [], ◌∷◌, ◌++◌, length, get_or, take, drop, set, ap, sym, ◌∙◌, inl, inr, mod-eq_of_lt, arith, length-append, length-drop, length-set, length-take-le, get_or-drop, get_or-take}
 use Rattle.std.specs.Prelude.{slice_get, Some}
 use native.Mathlib.Nat.{mod-eq-sub-mod, mod-add-mod}
@@ -7,7 +7,7 @@ use Rattle.std.proofs.lemmas.Option.{slice_get_read}
 use Rattle.std.proofs.lemmas.Bool.{cases_lt}
 use Rattle.std.proofs.lemmas.Grind.{common_steps}
 
--- the n places from k on, around the end
+-- the n entries from k on, around the end
 abbrev pub window : {X : Type 0} → ℕ → ℕ → List X → List X
 window k n xs = take n (drop k xs ++ take k xs)
 
@@ -44,7 +44,7 @@ module _ {X : Type 0} (N k n : ℕ) (xs : List X) (within : k < N) (few : n ≤ 
       let long' = length-set xs ((k + n) % N) x ∙ long in
       let length_old = length-window N k n xs within few long in
       let length_new = length-window N k (n + 1) ys within (omega arith) long' in
-      let place = mod_around N (k + n) (omega arith) in
+      let index = mod_around N (k + n) (omega arith) in
       same_lists _ _ (grind (arith, common_steps)) (λ i d below. grind (
         arith,
         common_steps,
@@ -67,7 +67,7 @@ module _ {X : Type 0} (N k n : ℕ) (xs : List X) (within : k < N) (few : n ≤ 
       ∙ sym (get_or-window N k n xs within few long (many + i) d (omega arith))
       ∙ sym (get_or-drop many (window k n xs) i d))
 
--- where the places end behind the last one in use
+-- where the entries end behind the last one in use
 module _ {X : Type 0} (k n : ℕ) (xs : List X) (ends : k + n ≡ length xs) where
   pub window-end : window k n xs ≡ drop k xs
   window-end = take_at (drop k xs) (take k xs) n (length-drop k xs ∙ omega (arith, ends))
@@ -77,7 +77,7 @@ module _ {X : Type 0} (k n : ℕ) (xs : List X) (ends : k + n ≡ length xs) whe
   slice_get-end i x below is =
       ap (λ (l : List X). slice_get l i) window-end ∙ slice_get_read (drop k xs) n i x (omega (arith, ends, length-drop k xs)) below (is ∙ sym (get_or-drop k xs i x))
 
--- a place that is made behind the last one in use
+-- an entry that is made behind the last one in use
 pub window-made : {X : Type 0} (k n : ℕ) (xs : List X) (x : X) → k + n ≡ length xs → window k (n + 1) (xs ++ x ∷ []) ≡ window k n xs ++ x ∷ []
 window-made {X} k n xs x ends =
     window-end k (n + 1) (xs ++ x ∷ []) (omega (arith, ends, length-append xs (x ∷ []))) ∙ drop-append-le k xs (x ∷ []) (omega (arith, ends)) ∙ ap (λ (l : List X). l ++ x ∷ []) (sym (window-end k n xs ends))

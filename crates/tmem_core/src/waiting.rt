@@ -11,8 +11,8 @@ pub const MAX_WAITING: usize = 256;
 /// The effects that wait, the oldest first. There is room for all of them from the start.
 #[derive(Drop)]
 pub(crate) struct Waiting {
-    // a ring, with room for all: the oldest stands at `start`, and the others behind it, around the end. Its places are made as they are
-    // first used: to make all of them would be much of what an opening takes
+    // a ring, with room for all: the oldest stands at `start`, and the others behind it, around the end. Its entries are made as they
+    // are first used: to make all of them would be much of what an opening takes
     effects: Vec<Effect>,
     start: usize,
     len: usize,
@@ -63,8 +63,8 @@ impl Waiting {
         requires { length self.old < MAX_WAITING }
         ensures { self.new ≡ self.old ++ effect.now ∷ [] }
     {
-        let place = (self.start + self.len) % MAX_WAITING;
-        fill(&mut self.effects, place, effect);
+        let index = (self.start + self.len) % MAX_WAITING;
+        fill(&mut self.effects, index, effect);
         self.len += 1;
     }
 
@@ -78,17 +78,17 @@ impl Waiting {
     }
 }
 
-// Fills a place with an effect. Where it is not there, it is made, behind all that are.
+// Puts an effect at an index of the ring. Where no entry is there, one is made, behind all that are.
 #[inline(always)]
-fn fill(places: &mut Vec<Effect>, place: usize, effect: &Effect)
-    requires { place < vec_capacity places.old }
-    ensures there { place < length places.old.items → places.new.items ≡ set places.old.items place effect.now }
-    ensures made { length places.old.items ≤ place → places.new.items ≡ places.old.items ++ effect.now ∷ [] }
-    ensures room { vec_capacity places.old ≤ vec_capacity places.new }
+fn fill(entries: &mut Vec<Effect>, index: usize, effect: &Effect)
+    requires { index < vec_capacity entries.old }
+    ensures there { index < length entries.old.items → entries.new.items ≡ set entries.old.items index effect.now }
+    ensures made { length entries.old.items ≤ index → entries.new.items ≡ entries.old.items ++ effect.now ∷ [] }
+    ensures room { vec_capacity entries.old ≤ vec_capacity entries.new }
 {
-    if place < places.len() {
-        places[place].copy_from(effect);
+    if index < entries.len() {
+        entries[index].copy_from(effect);
         return;
     }
-    places.push(effect.copy()).unwrap();
+    entries.push(effect.copy()).unwrap();
 }

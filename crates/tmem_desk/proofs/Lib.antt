@@ -2,11 +2,11 @@ mod Answering
 mod Counted
 mod Ends
 mod Giving
+mod Indices
 mod Knowing
 mod Lasting
 mod Lists
 mod Losing
-mod Places
 mod Seen
 mod Settled
 mod StepLaws

@@ -19,7 +19,7 @@ use Rattle.tmem_desk.specs.Desks.{DeskView}
 use Rattle.tmem_desk.specs.Keeping.{kept_under, with_kept}
 use Rattle.tmem_desk.specs.Serving.{HasNoPlan, MayWait, Runs, RunsCopy, tells, tried, cancelled, kept_as, waits, without}
 use Rattle.tmem_desk.specs.Told.{answer_told}
-use Rattle.tmem_desk.proofs.Places.{found_at, found_none, none_waits, first_waits, without_first, none_kept, first_kept, put_first, put_last}
+use Rattle.tmem_desk.proofs.Indices.{found_at, found_none, none_waits, first_waits, without_first, none_kept, first_kept, put_first, put_last}
 use Rattle.tmem_desk.proofs.Telling.{tells_tells}
 
 -- ---- those that wait
@@ -57,10 +57,10 @@ waits_full g xs id asks v w all many is = either (nat_lt (length v.waiting) 1024
 pub cancels_first : {X : Type 0} (g : X → ℤ × RequestBody) (id other : ℤ) (xs items : List X) (at : ℕ) (v mid w : DeskView) → v.waiting ≡ map g xs → position (λ (x : X). int_eq (g x).0 other) xs ≡ Some at
     → items ≡ remove xs at → mid ≡ tells (record v { waiting = map g items }) (answer_told other answer.Cancelled ∷ []) → w ≡ tells mid (answer_told id (answer.Found true) ∷ []) → w ≡ cancelled id other v
 cancels_first {X} g id other xs items at v mid w all found removed is more =
-    let place = found_at (λ (x : X). int_eq (g x).0 other) xs at found in
+    let found_index = found_at (λ (x : X). int_eq (g x).0 other) xs at found in
     let rest : map g items ≡ without other v.waiting =
-    ap (map g) removed ∙ subst (λ (k : ℕ). map g (remove xs k) ≡ without other v.waiting) place.1 (without_first g other xs place.0 ∙ ap (without other) (sym all)) in
-    let some : waits other v.waiting ≡ true = ap (waits other) all ∙ first_waits g other xs place.0 in
+    ap (map g) removed ∙ subst (λ (k : ℕ). map g (remove xs k) ≡ without other v.waiting) found_index.1 (without_first g other xs found_index.0 ∙ ap (without other) (sym all)) in
+    let some : waits other v.waiting ≡ true = ap (waits other) all ∙ first_waits g other xs found_index.0 in
     let both : w ≡ tells (record v { waiting = without other v.waiting }) (answer_told other answer.Cancelled ∷ answer_told id (answer.Found true) ∷ []) =
     more ∙ (ap (λ (d : DeskView). tells d (answer_told id (answer.Found true) ∷ [])) is
     ∙ (tells_tells (record v { waiting = map g items }) (answer_told other answer.Cancelled ∷ []) (answer_told id (answer.Found true) ∷ [])
@@ -107,10 +107,10 @@ cancels_first_at g id other id' other' xs items at v mid w id_is other_is all fo
 pub keeps_first : {X : Type 0} (g : X → List ℕ × Tx) (id : ℤ) (word : List ℕ) (tx : Tx) (xs items : List X) (at : ℕ) (x : X) (v w : DeskView) → v.kept ≡ map g xs
     → position (λ (y : X). bytes_eq (g y).0 word) xs ≡ Some at → g x ≡ (word, tx) → items ≡ set xs at x → w ≡ tells (record v { kept = map g items }) (answer_told id (answer.Kept word) ∷ []) → w ≡ kept_as id word tx v
 keeps_first {X} g id word tx xs items at x v w all found is written more =
-    let place = found_at (λ (y : X). bytes_eq (g y).0 word) xs at found in
+    let found_index = found_at (λ (y : X). bytes_eq (g y).0 word) xs at found in
     let puts : map g items ≡ with_kept word tx v.kept =
-    ap (map g) written ∙ subst (λ (k : ℕ). map g (set xs k x) ≡ with_kept word tx v.kept) place.1 (put_first g word tx xs x is place.0 ∙ ap (with_kept word tx) (sym all)) in
-    let some : is_some (kept_under word v.kept) ≡ true = ap (λ (ks : List (List ℕ × Tx)). is_some (kept_under word ks)) all ∙ ap is_some (first_kept g word xs x place.0) in
+    ap (map g) written ∙ subst (λ (k : ℕ). map g (set xs k x) ≡ with_kept word tx v.kept) found_index.1 (put_first g word tx xs x is found_index.0 ∙ ap (with_kept word tx) (sym all)) in
+    let some : is_some (kept_under word v.kept) ≡ true = ap (λ (ks : List (List ℕ × Tx)). is_some (kept_under word ks)) all ∙ ap is_some (first_kept g word xs x found_index.0) in
     let kept : w ≡ tells (record v { kept = with_kept word tx v.kept }) (answer_told id (answer.Kept word) ∷ []) =
     more ∙ ap (λ (ks : List (List ℕ × Tx)). tells (record v { kept = ks }) (answer_told id (answer.Kept word) ∷ [])) puts in
     subst
@@ -165,8 +165,8 @@ runs_none g s id numbers word xs v w all none is = subst (λ (o : Option Tx). Ru
 is_kept : {X : Type 0} (g : X → List ℕ × Tx) (word : List ℕ) (xs : List X) (at : ℕ) (d : X) (v : DeskView) → v.kept ≡ map g xs → position (λ (y : X). bytes_eq (g y).0 word) xs ≡ Some at
     → kept_under word v.kept ≡ Some (g (get_or xs at d)).1
 is_kept {X} g word xs at d v all found =
-    let place = found_at (λ (y : X). bytes_eq (g y).0 word) xs at found in
-    subst (λ (k : ℕ). kept_under word v.kept ≡ Some (g (get_or xs k d)).1) place.1 (ap (kept_under word) all ∙ first_kept g word xs d place.0)
+    let found_index = found_at (λ (y : X). bytes_eq (g y).0 word) xs at found in
+    subst (λ (k : ℕ). kept_under word v.kept ≡ Some (g (get_or xs k d)).1) found_index.1 (ap (kept_under word) all ∙ first_kept g word xs d found_index.0)
 
 -- it begins with fewer Puts
 pub runs_few : {X : Type 0} (g : X → List ℕ × Tx) (s : Store) (id : ℤ) (numbers : List ℤ) (word : List ℕ) (xs : List X) (at : ℕ) (d : X) (v w : DeskView) → v.kept ≡ map g xs
@@ -196,7 +196,7 @@ runs_copy g s id numbers word xs at d v w all found enough runs =
     either true le = runs
     either false le = absurd (grind (arith, nat_tests))
 
--- the same of the tree that was found at a place, where the id is read back from what is passed
+-- the same of the tree that was found at an index, where the id is read back from what is passed
 pub runs_few_at : {X : Type 0} (g : X → List ℕ × Tx) (s : Store) (id id' : ℤ) (numbers : List ℤ) (word : List ℕ) (xs : List X) (at : ℕ) (k : X) (tree : Tx) (enough : Bool) (v w : DeskView) → id' ≡ id → v.kept ≡ map g xs
     → position (λ (y : X). bytes_eq (g y).0 word) xs ≡ Some at → k ≡ get_or xs at k → tree ≡ (g k).1 → (enough ≡ true) ↔ (length numbers ≤ first_puts tree) → enough ≡ false
     → w ≡ tells v (answer_told id' (answer.Found false) ∷ []) → Runs s id numbers (kept_under word v.kept) v w

@@ -4,13 +4,13 @@ use Rattle.std.specs.Prelude.{slice_get, unwrap_or}
 use Rattle.std.proofs.lemmas.List.{take_all, map_push, map_more, length-map}
 use Rattle.tmem_desk.specs.Held.{first_numbers}
 
--- what stands at a place
+-- what stands at an index
 at_some : (xs : List ℤ) (n : ℕ) → n < length xs → slice_get xs n ≡ Some (get_or xs n (pos 0))
 at_some [] n below = absurd (omega arith)
 at_some (x ∷ xs) zero below = refl
 at_some (x ∷ xs) (suc n) below = at_some xs n (omega arith)
 
--- what stands at the first so many places
+-- what stands at the first so many indices
 at_first : (xs : List ℤ) (n : ℕ) → n ≤ length xs → map (λ (var : ℕ). slice_get xs var) (first_numbers n) ≡ map (λ (x : ℤ). Some x) (take n xs)
 at_first xs zero most = refl
 at_first xs (suc n) most =

@@ -261,26 +261,26 @@ impl<N: ServedNaming> Desk<N> {
         ensures ok { OnOk result (desk_view self.new ≡ cancelled id other (desk_view self.old)) }
         ensures err { IfErr result (λ f. f ≡ Fault.Memory) }
     {
-        match self.place_waiting(other) {
-            Some(place) => self.cancel_at(id, other, place),
+        match self.index_waiting(other) {
+            Some(index) => self.cancel_at(id, other, index),
             None => self.tell(id, Answer::Found(false)),
         }
     }
 
-    // The one at this place waits no more.
+    // The one at this index waits no more.
     #[tactic(auto, using(crate::proofs::Telling::tells_tells))]
-    fn cancel_at(&mut self, id: i64, other: i64, place: usize) -> Result<(), Fault>
-        requires { position (λ w. int_eq w.id other) self.old.waiting.items ≡ Some place }
+    fn cancel_at(&mut self, id: i64, other: i64, index: usize) -> Result<(), Fault>
+        requires { position (λ w. int_eq w.id other) self.old.waiting.items ≡ Some index }
         ensures ok { OnOk result (desk_view self.new ≡ cancelled id other (desk_view self.old)) }
         ensures err { IfErr result (λ f. f ≡ Fault.Memory) }
     {
-        self.waiting.remove(place);
+        self.waiting.remove(index);
         self.tell(other, Answer::Cancelled)?;
         self.tell(id, Answer::Found(true))
     }
 
     // Where the first request of an id stands among those that wait.
-    fn place_waiting(&self, id: i64) -> Option<usize>
+    fn index_waiting(&self, id: i64) -> Option<usize>
         ensures { result ≡ position (λ w. int_eq w.id id) self.now.waiting.items }
     {
         self.waiting.iter().position(|one| one.id == id)

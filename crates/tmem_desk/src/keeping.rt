@@ -54,9 +54,9 @@ impl<N: ServedNaming> Desk<N> {
         ensures ok { OnOk result (desk_view self.new ≡ kept_as id word ready.plan.tree (desk_view self.old)) }
         ensures err { IfErr result (λ f. f ≡ Fault.Memory) }
     {
-        match self.place_kept(&word) {
-            Some(place) => {
-                self.kept[place] = Kept { word, ready };
+        match self.index_kept(&word) {
+            Some(index) => {
+                self.kept[index] = Kept { word, ready };
                 self.tell(id, Answer::Kept(word))
             }
             None => self.keep_more(id, word, ready),
@@ -77,7 +77,7 @@ impl<N: ServedNaming> Desk<N> {
     }
 
     // Where a transaction is kept under a word.
-    fn place_kept(&self, word: &Name) -> Option<usize>
+    fn index_kept(&self, word: &Name) -> Option<usize>
         ensures { result ≡ position (λ k. bytes_eq k.word word.now) self.now.kept.items }
     {
         self.kept.iter().position(|one| one.word == *word)
@@ -94,10 +94,10 @@ impl<N: ServedNaming> Desk<N> {
         ensures ok { OnOk result (Runs (store N.name.start N.opening N.program N.arities N.always) id numbers.now (kept_under word.now (desk_view self.old).kept) (desk_view self.old) (desk_view self.new)) }
         ensures err { IfErr result (λ f. OrMemory f (desk_view self.new ≡ by (desk_view self.old) self.new.pass)) }
     {
-        let Some(place) = self.place_kept(word) else {
+        let Some(index) = self.index_kept(word) else {
             return self.tell(id, Answer::Found(false));
         };
-        let tree = self.kept[place].ready.plan.tree();
+        let tree = self.kept[index].ready.plan.tree();
         if !begins_with_puts(tree, numbers.len()) {
             return self.tell(id, Answer::Found(false));
         }

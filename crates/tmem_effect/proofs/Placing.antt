@@ -7,7 +7,7 @@ use Rattle.tmem_effect.specs.Writes.{with_write}
 use Rattle.tmem_effect.proofs.WritesLaws.{with_write-at, with_write-none}
 
 module _ (items : List (ℕ × ℤ)) (len var : ℕ) (value : ℤ) (within : len ≤ length items) where
-  -- a place that was found is before the end
+  -- an index that was found is before the end
   pub found_below : (at : ℕ) → position (λ w. var == w.0) (take len items) ≡ Some at → at < len
   found_below at found =
       let stands = position-Some (λ w. var == w.0) (take len items) at (0, pos 0) found in

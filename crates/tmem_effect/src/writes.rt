@@ -66,8 +66,8 @@ impl Writes {
         requires { IsNone (look self.old var) → length self.old < MAX_WRITES }
         ensures { self.new ≡ with_write self.old var value }
     {
-        match place(&self.items[..self.len], var) {
-            Some(at) => self.items[at] = (var, value),
+        match index_of(&self.items[..self.len], var) {
+            Some(index) => self.items[index] = (var, value),
             None => {
                 self.items[self.len] = (var, value);
                 self.len += 1;
@@ -92,8 +92,8 @@ impl Writes {
     }
 }
 
-// Where a variable stands.
-fn place(writes: &[(u16, i64)], var: u16) -> Option<usize>
+// The index of the first write of a variable.
+fn index_of(writes: &[(u16, i64)], var: u16) -> Option<usize>
     ensures { result ≡ position (λ w. var == w.0) writes.now }
 {
     writes.iter().position(|w| var == w.0)

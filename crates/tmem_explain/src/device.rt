@@ -136,7 +136,7 @@ impl fmt::Display for DeviceCause {
             DeviceCause::There =>
                 "something has this path, and a new file was to be made; name another path",
             DeviceCause::NameInDoubt =>
-                "it has a second name, as a new file has (PATH.new0) until its folder is synced; if it was not there before, this run made it, and that sync failed: remove both names, and look into the system's log (dmesg); else name another path",
+                "it has a second name, as a new file has (PATH.new0) until its folder is synced; if it may have been there before, name another path, and remove nothing; only if it surely was not, this run made it, and that sync failed: look into the system's log (dmesg), and then remove both names",
             DeviceCause::MissingFolder => "its folder is not there; make it, or check the path",
             DeviceCause::NoFolder =>
                 "a part of this path, or of a link on it, is used as a folder and is none; check the path",

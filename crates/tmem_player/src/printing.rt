@@ -3,18 +3,18 @@
 use std::io::{self, Write};
 use tmem_fault::{Fault, Name};
 
-// Prints what stands in front of an item of this place.
-fn print_comma<W: Write>(place: usize, out: &mut W) -> io::Result<()> {
-    if place > 0 {
+// Prints what stands in front of an item of this index.
+fn print_comma<W: Write>(index: usize, out: &mut W) -> io::Result<()> {
+    if index > 0 {
         out.write_all(b",")
     } else {
         Ok(())
     }
 }
 
-/// Prints a number, as an item of this place.
-pub(crate) fn print_number<W: Write>(place: usize, number: i64, out: &mut W) -> io::Result<()> {
-    print_comma(place, out)?;
+/// Prints a number, as an item of this index.
+pub(crate) fn print_number<W: Write>(index: usize, number: i64, out: &mut W) -> io::Result<()> {
+    print_comma(index, out)?;
     write!(out, "{number}")
 }
 
@@ -26,20 +26,20 @@ pub(crate) fn print_numbers<W: Write>(numbers: &[i64], out: &mut W) -> io::Resul
     Ok(())
 }
 
-/// Prints a name, as an item of this place.
-pub(crate) fn print_name<W: Write>(place: usize, name: &Name, out: &mut W) -> io::Result<()> {
-    print_comma(place, out)?;
+/// Prints a name, as an item of this index.
+pub(crate) fn print_name<W: Write>(index: usize, name: &Name, out: &mut W) -> io::Result<()> {
+    print_comma(index, out)?;
     write!(out, "{name}")
 }
 
-/// Prints a variable with its value, as an item of this place.
+/// Prints a variable with its value, as an item of this index.
 pub(crate) fn print_pair<W: Write>(
-    place: usize,
+    index: usize,
     var: u16,
     value: i64,
     out: &mut W,
 ) -> io::Result<()> {
-    print_comma(place, out)?;
+    print_comma(index, out)?;
     write!(out, "{var}:{value}")
 }
 

@@ -1,4 +1,4 @@
--- What holds of those before a place, and not with the one there.
+-- What holds of those before an index, and not with the one there.
 use Rattle.std.proofs.Common.{◌≡◌, ◌<◌, ◌+◌, ℕ, Bool, true, List, All, Some, Decides, length, take, get_or, sym, ap, ◌∙◌, subst, arith}
 use Rattle.std.specs.List.{list_any}
 use Rattle.std.proofs.lemmas.List.{get_or-take, length-take-le, take-take}

@@ -92,7 +92,7 @@ are_bounds_met (Some least) most = is_to most least
 abbrev pub CanHold : Linear → Type 0
 CanHold linear = are_bounds_met linear.least linear.most ≡ true
 
--- what holds of those before a place does not with the one there
+-- what holds of those before an index does not with the one there
 abbrev pub BreaksFirst : {X : Type 0} → (List X → Type 0) → List X → ℕ → Type 0
 BreaksFirst Holds xs i = Holds (take i xs) × (i < length xs) × ¬ Holds (take (i + 1) xs)
 

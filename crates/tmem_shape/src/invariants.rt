@@ -66,9 +66,9 @@ fn linears_of(alloc: Global, items: &[Value], vars: u16) -> Result<Vec<Linear>, 
     Ok(invariants)
 }
 
-// The place of the first invariant whose name an earlier one has, if there is one.
+// The index of the first invariant whose name an earlier one has, if there is one.
 fn name_repeated(invariants: &[Linear]) -> Option<usize>
-    ensures repeated { MatchOption result (AreDistinct (map (λ linear. linear.name) invariants.now)) (λ place. ¬ AreDistinct (map (λ linear. linear.name) invariants.now)) }
+    ensures repeated { MatchOption result (AreDistinct (map (λ linear. linear.name) invariants.now)) (λ index. ¬ AreDistinct (map (λ linear. linear.name) invariants.now)) }
     ensures first { IfSome result (BreaksFirst AreDistinct (map (λ linear. linear.name) invariants.now)) }
 {
     for (i, linear) in invariants.iter().enumerate() {
@@ -79,9 +79,9 @@ fn name_repeated(invariants: &[Linear]) -> Option<usize>
     None
 }
 
-/// The place of the first invariant whose least is above its most, if there is one.
+/// The index of the first invariant whose least is above its most, if there is one.
 pub(crate) fn first_crossed(invariants: &[Linear]) -> Option<usize>
-    ensures crossed { MatchOption result (All CanHold invariants.now) (λ place. ¬ All CanHold invariants.now) }
+    ensures crossed { MatchOption result (All CanHold invariants.now) (λ index. ¬ All CanHold invariants.now) }
     ensures first { IfSome result (BreaksFirst (All CanHold) invariants.now) }
 {
     for (i, linear) in invariants.iter().enumerate() {

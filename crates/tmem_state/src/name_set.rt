@@ -59,8 +59,8 @@ impl NameSet {
         ensures { self.new ≡ insert_name self.old name.now }
     {
         if !holds(&self.items, name) {
-            let place = count_below(&self.items, name);
-            self.items.insert(place, *name).unwrap();
+            let index = count_below(&self.items, name);
+            self.items.insert(index, *name).unwrap();
         }
     }
 

@@ -35,39 +35,39 @@ themselves : {m : _} (txs : Row_of-Tx m) → AreAlike txs txs
 themselves txs = record { depth = refl; choices = refl; counts = λ test looks. refl }
 
 mutual
-  pub alike : (place : ℕ) (n : ℤ) (tx : Tx) → IsAlike tx (with_number place n tx)
-  alike place n (Put reg number) =
+  pub alike : (index : ℕ) (n : ℤ) (tx : Tx) → IsAlike tx (with_number index n tx)
+  alike index n (Put reg number) =
       record { depth = refl; choices = refl; counts = λ test looks. ap one_if looks.put }
-  alike place n (Seq' shape txs) =
-      let x = all_alike place n txs in
+  alike index n (Seq' shape txs) =
+      let x = all_alike index n txs in
       record {
         depth = ap (λ d. 1 + d) x.depth;
         choices = x.choices;
         counts = λ test looks. ap₂ ◌+◌ (ap one_if looks.seq) (x.counts test looks);
       }
-  alike place n (When' reg p a q b) =
-      let x = alike place n a in
-      let y = cond_both (nat_lt place (count is_put a)) b _ (IsAlike b) (λ _. itself b) (λ _. alike (place - count is_put a) n b) in
+  alike index n (When' reg p a q b) =
+      let x = alike index n a in
+      let y = cond_both (nat_lt index (count is_put a)) b _ (IsAlike b) (λ _. itself b) (λ _. alike (index - count is_put a) n b) in
       record {
         depth = ap (λ d. 1 + d) (ap₂ max x.depth y.depth);
         choices = ap₂ max x.choices y.choices;
         counts = λ test looks. ap₂ ◌+◌ (ap one_if looks.when) (ap₂ ◌+◌ (x.counts test looks) (y.counts test looks));
       }
-  alike place n (OrElse' p a q b) =
-      let x = alike place n a in
-      let y = cond_both (nat_lt place (count is_put a)) b _ (IsAlike b) (λ _. itself b) (λ _. alike (place - count is_put a) n b) in
+  alike index n (OrElse' p a q b) =
+      let x = alike index n a in
+      let y = cond_both (nat_lt index (count is_put a)) b _ (IsAlike b) (λ _. itself b) (λ _. alike (index - count is_put a) n b) in
       record {
         depth = ap (λ d. 1 + d) (ap₂ max x.depth y.depth);
         choices = ap₂ (λ c d. max (1 + c) d) x.choices y.choices;
         counts = λ test looks. ap₂ ◌+◌ (ap one_if looks.or_else) (ap₂ ◌+◌ (x.counts test looks) (y.counts test looks));
       }
-  alike place n tx = itself tx
+  alike index n tx = itself tx
 
-  all_alike : {m : _} (place : ℕ) (n : ℤ) (txs : Row_of-Tx m) → AreAlike txs (with_number_in place n txs)
-  all_alike place n end_of-Tx = themselves end_of-Tx
-  all_alike place n (more_of-Tx tx txs) =
-      let x = alike place n tx in
-      let y = cond_both (nat_lt place (count is_put tx)) txs _ (AreAlike txs) (λ _. themselves txs) (λ _. all_alike (place - count is_put tx) n txs) in
+  all_alike : {m : _} (index : ℕ) (n : ℤ) (txs : Row_of-Tx m) → AreAlike txs (with_number_in index n txs)
+  all_alike index n end_of-Tx = themselves end_of-Tx
+  all_alike index n (more_of-Tx tx txs) =
+      let x = alike index n tx in
+      let y = cond_both (nat_lt index (count is_put tx)) txs _ (AreAlike txs) (λ _. themselves txs) (λ _. all_alike (index - count is_put tx) n txs) in
       record {
         depth = ap₂ max x.depth y.depth;
         choices = ap₂ max x.choices y.choices;
@@ -108,8 +108,8 @@ looks-lacks_shape : (names : List (List ℕ)) → LooksAtNode (lacks_shape names
 looks-lacks_shape names = record { put = refl; seq = refl; when = refl; or_else = refl }
 
 -- the tree behind a change is like the one before it
-pub alike_by : (place : ℕ) (n : ℤ) (old new : Tx) → new ≡ with_number place n old → IsAlike old new
-alike_by place n old new change = subst (IsAlike old) (sym change) (alike place n old)
+pub alike_by : (index : ℕ) (n : ℤ) (old new : Tx) → new ≡ with_number index n old → IsAlike old new
+alike_by index n old new change = subst (IsAlike old) (sym change) (alike index n old)
 
 module _ {old new : Tx} (same : IsAlike old new) where
   pub limits_kept : IsWithinLimits old → IsWithinLimits new
@@ -146,18 +146,18 @@ module _ {old new : Tx} (same : IsAlike old new) where
   pub still_shaped : (names : List (List ℕ)) → HasShapes names old → HasShapes names new
   still_shaped names shaped = same.counts _ (looks-lacks_shape names) ∙ shaped
 
--- behind the last place nothing changes
+-- behind the last index nothing changes
 mutual
-  pub unchanged_past : (place : ℕ) (n : ℤ) (tx : Tx) → count is_put tx ≤ place → with_number place n tx ≡ tx
-  unchanged_past place n (Put reg number) past = grind (arith, nat_tests)
-  unchanged_past place n (Seq' shape txs) past = ap (Seq' shape) (unchanged_in_past place n txs (omega arith))
-  unchanged_past place n (When' reg p a q b) past =
-      ap₂ (λ c d. When' reg p c q d) (unchanged_past place n a (omega arith)) (cond_both _ b _ (λ c. c ≡ b) (λ _. refl) (λ _. unchanged_past (place - count is_put a) n b (omega arith)))
-  unchanged_past place n (OrElse' p a q b) past =
-      ap₂ (λ c d. OrElse' p c q d) (unchanged_past place n a (omega arith)) (cond_both _ b _ (λ c. c ≡ b) (λ _. refl) (λ _. unchanged_past (place - count is_put a) n b (omega arith)))
-  unchanged_past place n tx past = refl
+  pub unchanged_past : (index : ℕ) (n : ℤ) (tx : Tx) → count is_put tx ≤ index → with_number index n tx ≡ tx
+  unchanged_past index n (Put reg number) past = grind (arith, nat_tests)
+  unchanged_past index n (Seq' shape txs) past = ap (Seq' shape) (unchanged_in_past index n txs (omega arith))
+  unchanged_past index n (When' reg p a q b) past =
+      ap₂ (λ c d. When' reg p c q d) (unchanged_past index n a (omega arith)) (cond_both _ b _ (λ c. c ≡ b) (λ _. refl) (λ _. unchanged_past (index - count is_put a) n b (omega arith)))
+  unchanged_past index n (OrElse' p a q b) past =
+      ap₂ (λ c d. OrElse' p c q d) (unchanged_past index n a (omega arith)) (cond_both _ b _ (λ c. c ≡ b) (λ _. refl) (λ _. unchanged_past (index - count is_put a) n b (omega arith)))
+  unchanged_past index n tx past = refl
 
-  unchanged_in_past : {m : _} (place : ℕ) (n : ℤ) (txs : Row_of-Tx m) → count_all is_put txs ≤ place → with_number_in place n txs ≡ txs
-  unchanged_in_past place n end_of-Tx past = refl
-  unchanged_in_past place n (more_of-Tx tx txs) past =
-      ap₂ more_of-Tx (unchanged_past place n tx (omega arith)) (cond_both _ txs _ (λ us. us ≡ txs) (λ _. refl) (λ _. unchanged_in_past (place - count is_put tx) n txs (omega arith)))
+  unchanged_in_past : {m : _} (index : ℕ) (n : ℤ) (txs : Row_of-Tx m) → count_all is_put txs ≤ index → with_number_in index n txs ≡ txs
+  unchanged_in_past index n end_of-Tx past = refl
+  unchanged_in_past index n (more_of-Tx tx txs) past =
+      ap₂ more_of-Tx (unchanged_past index n tx (omega arith)) (cond_both _ txs _ (λ us. us ≡ txs) (λ _. refl) (λ _. unchanged_in_past (index - count is_put tx) n txs (omega arith)))

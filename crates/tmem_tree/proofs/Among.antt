@@ -18,18 +18,18 @@ use Rattle.tmem_tree.proofs.Laws.{count_items, count-Seq}
 
 -- with_number_in, over the list
 abbrev pub with_number_among : ℕ → ℤ → List Tx → List Tx
-with_number_among place n [] = []
-with_number_among place n (tx ∷ txs) =
-    with_number place n tx ∷ (if nat_lt place (count is_put tx) then txs else with_number_among (place - count is_put tx) n txs)
+with_number_among index n [] = []
+with_number_among index n (tx ∷ txs) =
+    with_number index n tx ∷ (if nat_lt index (count is_put tx) then txs else with_number_among (index - count is_put tx) n txs)
 
 pub ap_either : {A B : Type 0} (f : A → B) (b : Bool) (x y : A) (z : B) → f y ≡ z → f (if b then x else y) ≡ (if b then f x else z)
 ap_either f true x y z same = refl
 ap_either f false x y z same = same
 
-with_number_in-items : {m : _} (place : ℕ) (n : ℤ) (txs : Row_of-Tx m) → items-the_row-Tx m (with_number_in place n txs) ≡ with_number_among place n (items-the_row-Tx m txs)
-with_number_in-items place n end_of-Tx = refl
-with_number_in-items place n (more_of-Tx tx txs) =
-    ap (λ us. with_number place n tx ∷ us) (ap_either (items-the_row-Tx _) _ txs _ _ (with_number_in-items (place - count is_put tx) n txs))
+with_number_in-items : {m : _} (index : ℕ) (n : ℤ) (txs : Row_of-Tx m) → items-the_row-Tx m (with_number_in index n txs) ≡ with_number_among index n (items-the_row-Tx m txs)
+with_number_in-items index n end_of-Tx = refl
+with_number_in-items index n (more_of-Tx tx txs) =
+    ap (λ us. with_number index n tx ∷ us) (ap_either (items-the_row-Tx _) _ txs _ _ (with_number_in-items (index - count is_put tx) n txs))
 
 -- the same vector with these trees
 abbrev with_trees : (v : Vec Tx Global) (txs : List Tx) → (v.len ≡ length txs) × (v.len ≤ v.cap) → Vec Tx Global
@@ -44,11 +44,11 @@ shown_trees v txs us long same =
     same_trees v _ _ (items_shown-the_row-Tx-0 (shape-the_row-Tx-0 v) txs ∙ same ∙ sym (with_items_is v us long)) _ _
 
 -- the Seq whose trees, now in a list, become these
-pub with_number-Seq : (place : ℕ) (n : ℤ) (tx : Tx) (v : Vec Tx Global) (now us : List Tx) → tx ≡ Seq v → now ≡ v.items → length us ≡ length now → with_number_among place n now ≡ us → with_number place n tx ≡ Seq (with_items v us)
-with_number-Seq place n tx v now us is listed long same =
-    let txs = with_number_in place n (hidden-the_row-Tx-0 v) in
-    let items = with_number_in-items place n (hidden-the_row-Tx-0 v) ∙ ap (with_number_among place n) (items_hidden-the_row-Tx-0 v ∙ sym listed) ∙ same in
-    ap (with_number place n) is
+pub with_number-Seq : (index : ℕ) (n : ℤ) (tx : Tx) (v : Vec Tx Global) (now us : List Tx) → tx ≡ Seq v → now ≡ v.items → length us ≡ length now → with_number_among index n now ≡ us → with_number index n tx ≡ Seq (with_items v us)
+with_number-Seq index n tx v now us is listed long same =
+    let txs = with_number_in index n (hidden-the_row-Tx-0 v) in
+    let items = with_number_in-items index n (hidden-the_row-Tx-0 v) ∙ ap (with_number_among index n) (items_hidden-the_row-Tx-0 v ∙ sym listed) ∙ same in
+    ap (with_number index n) is
     ∙ sym (roll-out-Tx (Seq' (shape-the_row-Tx-0 v) txs))
     ∙ ap roll-Tx (outs-Seq' (shape-the_row-Tx-0 v) txs)
     ∙ rolls-Seq (shown-the_row-Tx-0 (shape-the_row-Tx-0 v) txs)
@@ -58,7 +58,7 @@ with_number-Seq place n tx v now us is listed long same =
 pub puts-Seq : (tx : Tx) (v : Vec Tx Global) (now : List Tx) → tx ≡ Seq v → now ≡ v.items → count is_put tx ≡ count_items is_put now
 puts-Seq tx v now is listed = ap (count is_put) is ∙ count-Seq is_put v ∙ zero-add _ ∙ ap (count_items is_put) (sym listed)
 
--- the place is in the tree at i, where those before it have left so many places
+-- the index is in the tree at i, where those before it have left so much of it
 pub last_turn : (left i : ℕ) (n : ℤ) (txs us : List Tx) (d : Tx) → i < length us → txs ≡ take i us ++ with_number_among left n (drop i us) → left < count is_put (get_or us i d) → txs ≡ set us i (with_number left n (get_or us i d))
 last_turn left i n txs us d within so_far below =
     let new = with_number left n (get_or us i d) in

@@ -28,25 +28,25 @@ set_parts xs ys m i n long =
     (λ (past : m ≤ i). ap₂ ◌++◌ (set_past xs i n (omega arith)) (sym (cond_above i m ys _ _ past refl)) ∙ sym (set-append_right xs ys m i n long past))
     (cases_lt i m)
 
-changed_number : (place : ℕ) (n number : ℤ) → (if nat_eq place 0 then n else number) ∷ [] ≡ set (number ∷ []) place n
+changed_number : (index : ℕ) (n number : ℤ) → (if nat_eq index 0 then n else number) ∷ [] ≡ set (number ∷ []) index n
 changed_number zero n number = refl
-changed_number (suc place) n number = grind (arith, nat_tests)
+changed_number (suc index) n number = grind (arith, nat_tests)
 
 mutual
-  -- the one at the place is changed, and no other
-  pub numbers_changed : (place : ℕ) (n : ℤ) (tx : Tx) → numbers (with_number place n tx) ≡ set (numbers tx) place n
-  numbers_changed place n (Seq' shape txs) = numbers_in_changed place n txs
-  numbers_changed place n (Put reg number) = changed_number place n number
-  numbers_changed place n (When' reg p a q b) =
-      ap₂ ◌++◌ (numbers_changed place n a) (ap_either numbers _ b _ _ (numbers_changed (place - count is_put a) n b))
-      ∙ set_parts (numbers a) (numbers b) (count is_put a) place n (length-numbers a)
-  numbers_changed place n (OrElse' p a q b) =
-      ap₂ ◌++◌ (numbers_changed place n a) (ap_either numbers _ b _ _ (numbers_changed (place - count is_put a) n b))
-      ∙ set_parts (numbers a) (numbers b) (count is_put a) place n (length-numbers a)
-  numbers_changed place n tx = refl
+  -- the one at the index is changed, and no other
+  pub numbers_changed : (index : ℕ) (n : ℤ) (tx : Tx) → numbers (with_number index n tx) ≡ set (numbers tx) index n
+  numbers_changed index n (Seq' shape txs) = numbers_in_changed index n txs
+  numbers_changed index n (Put reg number) = changed_number index n number
+  numbers_changed index n (When' reg p a q b) =
+      ap₂ ◌++◌ (numbers_changed index n a) (ap_either numbers _ b _ _ (numbers_changed (index - count is_put a) n b))
+      ∙ set_parts (numbers a) (numbers b) (count is_put a) index n (length-numbers a)
+  numbers_changed index n (OrElse' p a q b) =
+      ap₂ ◌++◌ (numbers_changed index n a) (ap_either numbers _ b _ _ (numbers_changed (index - count is_put a) n b))
+      ∙ set_parts (numbers a) (numbers b) (count is_put a) index n (length-numbers a)
+  numbers_changed index n tx = refl
 
-  numbers_in_changed : {m : _} (place : ℕ) (n : ℤ) (txs : Row_of-Tx m) → numbers_in (with_number_in place n txs) ≡ set (numbers_in txs) place n
-  numbers_in_changed place n end_of-Tx = refl
-  numbers_in_changed place n (more_of-Tx tx txs) =
-      ap₂ ◌++◌ (numbers_changed place n tx) (ap_either numbers_in _ txs _ _ (numbers_in_changed (place - count is_put tx) n txs))
-      ∙ set_parts (numbers tx) (numbers_in txs) (count is_put tx) place n (length-numbers tx)
+  numbers_in_changed : {m : _} (index : ℕ) (n : ℤ) (txs : Row_of-Tx m) → numbers_in (with_number_in index n txs) ≡ set (numbers_in txs) index n
+  numbers_in_changed index n end_of-Tx = refl
+  numbers_in_changed index n (more_of-Tx tx txs) =
+      ap₂ ◌++◌ (numbers_changed index n tx) (ap_either numbers_in _ txs _ _ (numbers_in_changed (index - count is_put tx) n txs))
+      ∙ set_parts (numbers tx) (numbers_in txs) (count is_put tx) index n (length-numbers tx)

@@ -18,17 +18,17 @@ abbrev mutual
   numbers_in (more_of-Tx tx txs) = numbers tx ++ numbers_in txs
 
 abbrev mutual
-  -- its Puts are counted from 0 in the order in which they stand, and the one at the place takes the number
+  -- its Puts are counted from 0 in the order in which they stand, and the one at the index takes the number
   pub with_number : ℕ → ℤ → Tx → Tx
-  with_number place n (Seq' shape txs) = Seq' shape (with_number_in place n txs)
-  with_number place n (Put reg number) = Put reg (if nat_eq place 0 then n else number)
-  with_number place n (When' reg p a q b) =
-      When' reg p (with_number place n a) q (if nat_lt place (count is_put a) then b else with_number (place - count is_put a) n b)
-  with_number place n (OrElse' p a q b) =
-      OrElse' p (with_number place n a) q (if nat_lt place (count is_put a) then b else with_number (place - count is_put a) n b)
-  with_number place n tx = tx
+  with_number index n (Seq' shape txs) = Seq' shape (with_number_in index n txs)
+  with_number index n (Put reg number) = Put reg (if nat_eq index 0 then n else number)
+  with_number index n (When' reg p a q b) =
+      When' reg p (with_number index n a) q (if nat_lt index (count is_put a) then b else with_number (index - count is_put a) n b)
+  with_number index n (OrElse' p a q b) =
+      OrElse' p (with_number index n a) q (if nat_lt index (count is_put a) then b else with_number (index - count is_put a) n b)
+  with_number index n tx = tx
 
   pub with_number_in : {m : _} → ℕ → ℤ → Row_of-Tx m → Row_of-Tx m
-  with_number_in place n end_of-Tx = end_of-Tx
-  with_number_in place n (more_of-Tx tx txs) =
-      more_of-Tx (with_number place n tx) (if nat_lt place (count is_put tx) then txs else with_number_in (place - count is_put tx) n txs)
+  with_number_in index n end_of-Tx = end_of-Tx
+  with_number_in index n (more_of-Tx tx txs) =
+      more_of-Tx (with_number index n tx) (if nat_lt index (count is_put tx) then txs else with_number_in (index - count is_put tx) n txs)

@@ -148,15 +148,15 @@ impl Plan {
         self.is_short
     }
 
-    /// Changes the number of the `Put` at this place. Places are counted from 0, in the order in which the `Put`s stand in
+    /// Changes the number of the `Put` at this index. They are counted from 0, in the order in which the `Put`s stand in
     /// the tree: `then` before `other`, and the first branch before the second. Answers false, and changes nothing, where
-    /// there is no such place. Allocates nothing.
+    /// there is no such index. Allocates nothing.
     #[tactic(auto, using(crate::proofs::Numbered::numbers_changed, crate::proofs::Alike::unchanged_past))]
-    pub fn set_number(&mut self, place: usize, number: i64) -> bool
-        ensures tree { self.new.tree ≡ with_number place number self.old.tree }
+    pub fn set_number(&mut self, index: usize, number: i64) -> bool
+        ensures tree { self.new.tree ≡ with_number index number self.old.tree }
         ensures shapes { self.new.shapes ≡ self.old.shapes }
-        ensures numbers { numbers self.new.tree ≡ slice_set (numbers self.old.tree) place number }
-        ensures found { IsTrue result ↔ (place < count is_put self.old.tree) }
+        ensures numbers { numbers self.new.tree ≡ slice_set (numbers self.old.tree) index number }
+        ensures found { IsTrue result ↔ (index < count is_put self.old.tree) }
         ensures unchanged { IsFalse result → self.new ≡ self.old }
         ensures steps { (arities : List ℕ) → FitsSteps arities self.old.tree → FitsSteps arities self.new.tree }
         ensures variables { (vars : ℕ) → FitsVariables vars self.old → FitsVariables vars self.new }
@@ -164,7 +164,7 @@ impl Plan {
         ensures short { IsShortTx self.new.tree ↔ IsShortTx self.old.tree }
         ensures choices { choices self.new.tree ≡ choices self.old.tree }
     {
-        change_number(&mut self.tx, place, number).is_none()
+        change_number(&mut self.tx, index, number).is_none()
     }
 }
 

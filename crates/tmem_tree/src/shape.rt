@@ -15,7 +15,7 @@ use tmem_invariants::{Invariants, MAX_FOOTPRINT};
 #[derive(Clone, Copy)]
 pub struct Footprint {
     // zeros behind the variables
-    places: [u16; MAX_FOOTPRINT],
+    entries: [u16; MAX_FOOTPRINT],
     len: u8,
 }
 
@@ -25,11 +25,11 @@ impl Model for Footprint {
 
     ghost Value = { List ℕ };
 
-    ghost view = { λ f. take f.len f.places };
+    ghost view = { λ f. take f.len f.entries };
 
-    ghost invariant = { λ f. HoldsFootprint f.places f.len };
+    ghost invariant = { λ f. HoldsFootprint f.entries f.len };
 
-    ghost inverse = { λ vars. record { places = vars ++ replicate (16 - length vars) 0; len = length vars } };
+    ghost inverse = { λ vars. record { entries = vars ++ replicate (16 - length vars) 0; len = length vars } };
 
     ghost use Rattle.std.proofs.Common.{refl, sym};
 
@@ -42,10 +42,10 @@ impl Footprint {
         requires { length vars.now ≤ 16 }
         ensures { result ≡ vars.now }
     {
-        let mut places = [0; MAX_FOOTPRINT];
-        places[..vars.len()].copy_from_slice(vars);
+        let mut entries = [0; MAX_FOOTPRINT];
+        entries[..vars.len()].copy_from_slice(vars);
         Footprint {
-            places,
+            entries,
             len: vars.len() as u8,
         }
     }
@@ -55,7 +55,7 @@ impl Footprint {
         ensures vars { result.now ≡ self.now }
         ensures short { length self.now ≤ 16 }
     {
-        &self.places[..self.len as usize]
+        &self.entries[..self.len as usize]
     }
 }
 

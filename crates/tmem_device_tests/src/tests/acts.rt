@@ -114,15 +114,15 @@ enum Store {
 pub(super) fn play(rt: &impl Abort, alloc: Global, acts: &[Act]) -> Result<(), Fail> {
     assert!(rt; each_case_has_a_row(acts), "a case has no row");
     let mut case = 0;
-    for (place, act) in acts.iter().enumerate() {
+    for (index, act) in acts.iter().enumerate() {
         if matches!(act, Act::Case(_)) {
-            case = place;
+            case = index;
         }
         if matches!(act, Act::Row) {
-            let other = other_in_row(alloc, behind(acts, case), behind(acts, place))?;
+            let other = other_in_row(alloc, behind(acts, case), behind(acts, index))?;
             assert!(rt;
                 other.is_none(),
-                "{}, row at act {place}: {other:?}",
+                "{}, row at act {index}: {other:?}",
                 name_at(acts, case)
             );
         }
@@ -172,7 +172,7 @@ fn behind<'b, 'a>(acts: &'b [Act<'a>], mark: usize) -> &'b [Act<'a>] {
     }
 }
 
-/// The place of the first act of a row that is answered otherwise.
+/// The index of the first act of a row that is answered otherwise.
 fn other_in_row<'a>(
     alloc: Global,
     first: &[Act<'a>],
@@ -183,13 +183,13 @@ fn other_in_row<'a>(
     first_other(alloc, &acts)
 }
 
-/// The place of the first act that is answered otherwise.
+/// The index of the first act that is answered otherwise.
 fn first_other(alloc: Global, acts: &[Act]) -> Result<Option<usize>, Fault> {
     let mut store = Store::Closed(made(alloc, 0)?);
-    for (place, act) in acts.iter().enumerate() {
+    for (index, act) in acts.iter().enumerate() {
         let (next, is_so) = after(alloc, store, act)?;
         if !is_so {
-            return Ok(Some(place));
+            return Ok(Some(index));
         }
         store = next;
     }

@@ -176,7 +176,7 @@ pub(super) enum Wrong {
 /// How often the front is shut where threads still wait.
 const MOST_SHUTS: u64 = 100;
 
-/// The place of the last thread.
+/// The index of the last thread.
 const LAST: usize = 3;
 
 /// How many threads there are, and how many more are a crowd.
@@ -255,8 +255,8 @@ impl<D: Disk + Drop, N: StoreNaming, T: Invariants + Drop, S: StoredSteps + Drop
         part: Part,
     ) -> Option<Wrong> {
         let mut wrong = None;
-        for (place, line) in stage.lines.iter().enumerate() {
-            if let Some(other) = self.other_at(stage, hands, part, place, line) {
+        for (index, line) in stage.lines.iter().enumerate() {
+            if let Some(other) = self.other_at(stage, hands, part, index, line) {
                 wrong = wrong.or(Some(other));
             }
         }
@@ -269,7 +269,7 @@ impl<D: Disk + Drop, N: StoreNaming, T: Invariants + Drop, S: StoredSteps + Drop
         stage: &Stage<R>,
         hands: &mut Hands<N>,
         part: Part,
-        place: usize,
+        index: usize,
         line: &Line,
     ) -> Option<Wrong> {
         let (step, want) = line.row(part)?;
@@ -279,7 +279,7 @@ impl<D: Disk + Drop, N: StoreNaming, T: Invariants + Drop, S: StoredSteps + Drop
         }
         Some(Wrong::Answered {
             part,
-            line: place,
+            line: index,
             answer,
         })
     }
@@ -427,7 +427,7 @@ fn play_scene<R: Clock + Threads + Wait + Sync>(
 // The lines of the scene that begins there.
 fn scene_at<'b, 'a>(lines: &'b [Line<'a>], begin: usize) -> &'b [Line<'a>] {
     let rest = &lines[begin.min(lines.len())..];
-    let ends = |(place, line): (usize, &Line)| place > 0 && matches!(line, Line::Scene(_));
+    let ends = |(index, line): (usize, &Line)| index > 0 && matches!(line, Line::Scene(_));
     match rest.iter().enumerate().position(ends) {
         Some(end) => &rest[..end],
         None => rest,
@@ -461,9 +461,9 @@ pub(super) fn play<R: Abort + Clock + Threads + Wait + Sync>(
         matches!(lines.first(), Some(Line::Scene(_))),
         "a table begins with a scene"
     );
-    for (place, line) in lines.iter().enumerate() {
+    for (index, line) in lines.iter().enumerate() {
         if let Line::Scene(name) = line {
-            let scene = scene_at(lines, place);
+            let scene = scene_at(lines, index);
             assert!(rt; is_played(scene), "{name}: nothing is done");
             let wrong = play_scene(rt, alloc, scene);
             assert!(rt; wrong.is_none(), "{name}: {wrong:?}");

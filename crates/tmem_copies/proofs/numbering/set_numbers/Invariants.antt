@@ -6,10 +6,10 @@ use Rattle.tmem_copies.specs.Numbering.{with_numbers}
 use Rattle.tmem_copies.proofs.numbering.set_numbers.Given as goal
 
 -- the numbers so far were taken
-abbrev pub invariant-loop-place : goal.invariant-loop-place
-invariant-loop-place l = record {
-  tree : l.plan.tree ≡ with_numbers (take l.place l.numbers) l.fn.plan.tree;
-  taken : numbers l.plan.tree ≡ sets (numbers l.fn.plan.tree) 0 (take l.place l.numbers);
+abbrev pub invariant-loop-index : goal.invariant-loop-index
+invariant-loop-index l = record {
+  tree : l.plan.tree ≡ with_numbers (take l.index l.numbers) l.fn.plan.tree;
+  taken : numbers l.plan.tree ≡ sets (numbers l.fn.plan.tree) 0 (take l.index l.numbers);
   shapes : l.plan.shapes ≡ l.fn.plan.shapes;
   steps : (arities : List ℕ) → FitsSteps arities l.fn.plan.tree → FitsSteps arities l.plan.tree;
   variables : (vars : ℕ) → FitsVariables vars l.fn.plan → FitsVariables vars l.plan;

@@ -15,7 +15,7 @@ returns-in_err-left-in-Seq-clause-tree t c =
     let turn =
     last_turn c.loop-t.left c.loop-t.t-index n _ now c.t-item.result (search rules) (rw number at c.loop-t.invariant.changed) (c.in_err-left-in-Seq.ensures.found refl)
     ∙ ap (set now c.loop-t.t-index) (sym (rw number at c.change_number.ensures.tree)) in
-    rw (with_number-Seq c.args.place n c.args.tx.now c.in-Seq.txs _ _ c.in-Seq.is listed (length-set _ _ _ ∙ c.loop-t.invariant.unvisited.0) turn) (search (rules, the_lemmas))
+    rw (with_number-Seq c.args.index n c.args.tx.now c.in-Seq.txs _ _ c.in-Seq.is listed (length-set _ _ _ ∙ c.loop-t.invariant.unvisited.0) turn) (search (rules, the_lemmas))
 
 pub returns-in_err-left-in-Seq-clause-found : goal.returns-in_err-left-in-Seq-clause-found
 returns-in_err-left-in-Seq-clause-found t c = λ none.
@@ -29,7 +29,7 @@ returns-after-loop-t-clause-tree t c =
     let number : to_z w64 (of_z w64 n) ≡ n = search rules in
     let listed = c.deref_mut-t-items.ensures.value ∙ ap (λ v. v.items) c.in-Seq.txs-is in
     let turn = no_turn c.loop-t.left c.loop-t.t-index n _ c.loop-t.t-items (search rules) (rw number at c.loop-t.invariant.changed) in
-    rw (with_number-Seq c.args.place n c.args.tx.now c.in-Seq.txs _ _ c.in-Seq.is listed c.loop-t.invariant.unvisited.0 turn) (search (rules, the_lemmas))
+    rw (with_number-Seq c.args.index n c.args.tx.now c.in-Seq.txs _ _ c.in-Seq.is listed c.loop-t.invariant.unvisited.0 turn) (search (rules, the_lemmas))
 
 pub returns-after-loop-t-clause-left : goal.returns-after-loop-t-clause-left
 returns-after-loop-t-clause-left t c =

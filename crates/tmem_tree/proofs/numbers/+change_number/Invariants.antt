@@ -9,6 +9,6 @@ invariant-loop-t l =
     let rest = drop l.t-index l.t-items in
     record {
       unvisited : goal.unvisited-loop-t l;
-      changed : with_number_among l.place l.fn.number l.initial.t-items ≡ take l.t-index l.t-items ++ with_number_among l.left l.fn.number rest;
-      left : l.left + count_items is_put l.initial.t-items ≡ l.place + count_items is_put rest;
+      changed : with_number_among l.index l.fn.number l.initial.t-items ≡ take l.t-index l.t-items ++ with_number_among l.left l.fn.number rest;
+      left : l.left + count_items is_put l.initial.t-items ≡ l.index + count_items is_put rest;
     }

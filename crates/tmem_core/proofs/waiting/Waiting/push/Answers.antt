@@ -11,11 +11,11 @@ invariant_of-self c =
     let w = c.self.inside in
     let held = length-ring w.effects.items _ w.start w.len c.self.invariant in
     let room : w.len < 256 = omega (arith, c.requires, held, ap length c.self.view_is) in
-    let wide : 2 ^ 8 ≤ vec_capacity c.fill.new.places = omega (arith, c.self.invariant.room, c.fill.ensures.room) in
+    let wide : 2 ^ 8 ≤ vec_capacity c.fill.new.entries = omega (arith, c.self.invariant.room, c.fill.ensures.room) in
     elim (cases_lt ((w.start + w.len) % 256) (length w.effects.items)) [
-      | inl there ↦ subst (λ (xs : List Effect). IsRing xs (vec_capacity c.fill.new.places) w.start (w.len + 1)) (sym (c.fill.ensures.there there))
+      | inl there ↦ subst (λ (xs : List Effect). IsRing xs (vec_capacity c.fill.new.entries) w.start (w.len + 1)) (sym (c.fill.ensures.there there))
           (IsRing-there w.effects.items _ w.start w.len c.self.invariant c.args.effect.now _ room there wide)
-      | inr none ↦ subst (λ (xs : List Effect). IsRing xs (vec_capacity c.fill.new.places) w.start (w.len + 1)) (sym (c.fill.ensures.made none))
+      | inr none ↦ subst (λ (xs : List Effect). IsRing xs (vec_capacity c.fill.new.entries) w.start (w.len + 1)) (sym (c.fill.ensures.made none))
           (IsRing-made w.effects.items _ w.start w.len c.self.invariant c.args.effect.now _ room none wide)
     ]
 

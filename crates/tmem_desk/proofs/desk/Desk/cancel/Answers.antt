@@ -10,7 +10,7 @@ use Rattle.tmem_desk.proofs.desk.Desk.cancel.Goals as goal
 pub returns-in-None-clause-ok : goal.returns-in-None-clause-ok
 returns-in-None-clause-ok g c =
     on_ok_weaker c.tell.result
-    (cancels_none_at _ c.args.id c.args.other _ _ c.args.self.now.waiting.items (desk_view c.args.self.now) (desk_view c.tell.new.self) (to_z-of_z w64 c.args.id c.ranges.id) (to_z-of_z w64 c.args.other c.ranges.other) refl (sym c.place_waiting.ensures ∙ c.in-None.is))
+    (cancels_none_at _ c.args.id c.args.other _ _ c.args.self.now.waiting.items (desk_view c.args.self.now) (desk_view c.tell.new.self) (to_z-of_z w64 c.args.id c.ranges.id) (to_z-of_z w64 c.args.other c.ranges.other) refl (sym c.index_waiting.ensures ∙ c.in-None.is))
     c.tell.ensures.ok
 
 -- where the ids are read back from what is passed

@@ -11,5 +11,5 @@ returns-in-Some-clause-ok g c =
     on_ok_weaker c.tell.result
     (λ is.
     subst (λ (id : ℤ). desk_view c.tell.new.self ≡ kept_as id c.args.word c.args.ready.plan.tree (desk_view c.args.self.now)) (to_z-of_z w64 c.args.id c.ranges.id)
-    (keeps_first _ _ c.args.word c.args.ready.plan.tree c.args.self.now.kept.items _ c.in-Some.place _ (desk_view c.args.self.now) (desk_view c.tell.new.self) refl (sym c.place_kept.ensures ∙ c.in-Some.is) refl refl is))
+    (keeps_first _ _ c.args.word c.args.ready.plan.tree c.args.self.now.kept.items _ c.in-Some.index _ (desk_view c.args.self.now) (desk_view c.tell.new.self) refl (sym c.index_kept.ensures ∙ c.in-Some.is) refl refl is))
     c.tell.ensures.ok

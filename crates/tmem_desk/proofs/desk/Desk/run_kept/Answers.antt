@@ -15,21 +15,21 @@ returns-in_default-clause-ok g c =
     on_ok_weaker c.tell.result
     (λ is.
     subst (λ (id : ℤ). Runs (store g.N.Naming.name.start g.N.StoreNaming.opening g.N.ProgramNaming.program g.N.ServedNaming.arities g.N.ServedNaming.always) id c.args.numbers.now (kept_under c.args.word.now (desk_view c.args.self.now).kept) (desk_view c.args.self.now) (desk_view c.tell.new.self)) (to_z-of_z w64 c.args.id c.ranges.id)
-    (runs_none _ (store g.N.Naming.name.start g.N.StoreNaming.opening g.N.ProgramNaming.program g.N.ServedNaming.arities g.N.ServedNaming.always) _ c.args.numbers.now c.args.word.now c.args.self.now.kept.items (desk_view c.args.self.now) (desk_view c.tell.new.self) refl (sym c.place_kept.ensures ∙ c.in_default.is) is))
+    (runs_none _ (store g.N.Naming.name.start g.N.StoreNaming.opening g.N.ProgramNaming.program g.N.ServedNaming.arities g.N.ServedNaming.always) _ c.args.numbers.now c.args.word.now c.args.self.now.kept.items (desk_view c.args.self.now) (desk_view c.tell.new.self) refl (sym c.index_kept.ensures ∙ c.in_default.is) is))
     c.tell.ensures.ok
 
 pub returns-then-not-begins_with_puts-clause-ok : goal.returns-then-not-begins_with_puts-clause-ok
 returns-then-not-begins_with_puts-clause-ok g c =
     on_ok_weaker c.tell-then-not-begins_with_puts.result
-    (runs_few_at _ (store g.N.Naming.name.start g.N.StoreNaming.opening g.N.ProgramNaming.program g.N.ServedNaming.arities g.N.ServedNaming.always) c.args.id _ c.args.numbers.now c.args.word.now c.args.self.now.kept.items c.in-Some.place c.index.result.now c.tree-tree.result.now c.begins_with_puts.result (desk_view c.args.self.now) (desk_view c.tell-then-not-begins_with_puts.new.self) (to_z-of_z w64 c.args.id c.ranges.id) refl
-    (sym c.place_kept.ensures ∙ c.in-Some.is) c.index.ensures c.tree-tree.ensures.tree c.begins_with_puts.ensures c.if-not-begins_with_puts.true)
+    (runs_few_at _ (store g.N.Naming.name.start g.N.StoreNaming.opening g.N.ProgramNaming.program g.N.ServedNaming.arities g.N.ServedNaming.always) c.args.id _ c.args.numbers.now c.args.word.now c.args.self.now.kept.items c.in-Some.index c.index.result.now c.tree-tree.result.now c.begins_with_puts.result (desk_view c.args.self.now) (desk_view c.tell-then-not-begins_with_puts.new.self) (to_z-of_z w64 c.args.id c.ranges.id) refl
+    (sym c.index_kept.ensures ∙ c.in-Some.is) c.index.ensures c.tree-tree.ensures.tree c.begins_with_puts.ensures c.if-not-begins_with_puts.true)
     c.tell-then-not-begins_with_puts.ensures.ok
 
 pub returns-clause-ok : goal.returns-clause-ok
 returns-clause-ok g c =
     on_ok_weaker c.run_copy.result
-    (runs_copy_at _ (store g.N.Naming.name.start g.N.StoreNaming.opening g.N.ProgramNaming.program g.N.ServedNaming.arities g.N.ServedNaming.always) c.args.id _ c.args.numbers.now c.args.word.now c.args.self.now.kept.items c.in-Some.place c.index.result.now c.tree-tree.result.now c.in_ok-copy.copy c.begins_with_puts.result (desk_view c.args.self.now) (desk_view c.run_copy.new.self) (to_z-of_z w64 c.args.id c.ranges.id) refl
-    (sym c.place_kept.ensures ∙ c.in-Some.is) c.index.ensures c.tree-tree.ensures.tree c.begins_with_puts.ensures c.if-not-begins_with_puts.false c.in_ok-copy.ensures)
+    (runs_copy_at _ (store g.N.Naming.name.start g.N.StoreNaming.opening g.N.ProgramNaming.program g.N.ServedNaming.arities g.N.ServedNaming.always) c.args.id _ c.args.numbers.now c.args.word.now c.args.self.now.kept.items c.in-Some.index c.index.result.now c.tree-tree.result.now c.in_ok-copy.copy c.begins_with_puts.result (desk_view c.args.self.now) (desk_view c.run_copy.new.self) (to_z-of_z w64 c.args.id c.ranges.id) refl
+    (sym c.index_kept.ensures ∙ c.in-Some.is) c.index.ensures c.tree-tree.ensures.tree c.begins_with_puts.ensures c.if-not-begins_with_puts.false c.in_ok-copy.ensures)
     c.run_copy.ensures.ok
 
 pub returns-in_default-clause-err : goal.returns-in_default-clause-err

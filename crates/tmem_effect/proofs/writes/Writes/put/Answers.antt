@@ -9,9 +9,9 @@ pub invariant_of-self : goal.invariant_of-self
 invariant_of-self c =
     let w = c.self.inside in
     let made : length w.items ≡ 64 = search rules in
-    let found : position (λ v. c.args.var == v.0) (take w.len w.items) ≡ Some c.in-Some.at = cc in
+    let found : position (λ v. c.args.var == v.0) (take w.len w.items) ≡ Some c.in-Some.index = cc in
     let room = rw (← c.self.view_is) at c.requires in (
-      rw (to_z-of_z w64 c.args.value c.ranges.value, take-set-with_write w.items w.len c.args.var c.args.value (omega arith) c.in-Some.at found)
+      rw (to_z-of_z w64 c.args.value c.ranges.value, take-set-with_write w.items w.len c.args.var c.args.value (omega arith) c.in-Some.index found)
           (AreWrites-with_write (take w.len w.items) c.args.var c.args.value room c.ranges.value c.self.invariant.0),
       c.self.invariant.1,
     )
@@ -41,8 +41,8 @@ pub returns-in-Some : goal.returns-in-Some
 returns-in-Some c =
     let w = c.self.inside in
     let made : length w.items ≡ 64 = search rules in
-    let found : position (λ v. c.args.var == v.0) (take w.len w.items) ≡ Some c.in-Some.at = cc in
-    rw (to_z-of_z w64 c.args.value c.ranges.value, ← c.self.view_is) (take-set-with_write w.items w.len c.args.var c.args.value (omega arith) c.in-Some.at found)
+    let found : position (λ v. c.args.var == v.0) (take w.len w.items) ≡ Some c.in-Some.index = cc in
+    rw (to_z-of_z w64 c.args.value c.ranges.value, ← c.self.view_is) (take-set-with_write w.items w.len c.args.var c.args.value (omega arith) c.in-Some.index found)
 
 pub returns-in-None : goal.returns-in-None
 returns-in-None c =

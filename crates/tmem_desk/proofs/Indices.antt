@@ -1,4 +1,4 @@
--- What stands at a place among those that wait, and among those that are kept.
+-- What stands at an index among those that wait, and among those that are kept.
 use Rattle.std.proofs.Common.{◌≡◌, ℕ, suc, ℤ, ◌<◌, ◌+◌, Bool, true, false, ◌||◌, cond, not, nat_lt, List, [], ◌∷◌, ◌++◌, length, map, set, get_or, Some, None, refl, ap, subst, arith}
 use Rattle.std.specs.Prelude.{find, position, bytes_eq, if◌then◌else◌}
 use Rattle.std.proofs.lemmas.Bool.Decides.{nat_tests}
@@ -113,9 +113,9 @@ put_last {X} g word tx (x ∷ xs) y is none = either (bytes_eq (g x).0 word) non
     either true short later = absurd (short (omega arith))
     either false short later = ap (λ (ks : List (List ℕ × Tx)). g x ∷ ks) (later (λ below. short (omega arith)))
 
--- ---- places
+-- ---- indices
 
--- what is told of a place
+-- what is told of an index
 pub found_at : {X : Type 0} (p : X → Bool) (xs : List X) (at : ℕ) → position p xs ≡ Some at → (position_or_len p xs < length xs) × (position_or_len p xs ≡ at)
 found_at p xs at is = either (nat_lt (position_or_len p xs) (length xs)) refl is
   where
@@ -125,8 +125,8 @@ found_at p xs at is = either (nat_lt (position_or_len p xs) (length xs)) refl is
 
 pub found_below : {X : Type 0} (p : X → Bool) (xs : List X) (at : ℕ) → position p xs ≡ Some at → at < length xs
 found_below p xs at is =
-    let place = found_at p xs at is in
-    subst (λ (k : ℕ). k < length xs) place.1 place.0
+    let found_index = found_at p xs at is in
+    subst (λ (k : ℕ). k < length xs) found_index.1 found_index.0
 
 pub found_none : {X : Type 0} (p : X → Bool) (xs : List X) → position p xs ≡ None → ¬ (position_or_len p xs < length xs)
 found_none p xs is = either (nat_lt (position_or_len p xs) (length xs)) refl is
