@@ -36,6 +36,12 @@ const NO_LINES: &str =
 const NO_ANSWERS: &str =
     "standard output took no more; look whether its reader has ended, and for room; requests without an answer may be done: see what the store has before any is repeated";
 
+const UNSURE: &str =
+    "a write or sync failed; repeat nothing yet: open the store again, after an error of the disk (dmesg) once the machine was started anew";
+
+const NOT_ANSWERED: &str =
+    "if it had told opened, each request without an answer, or answered by this fault, may be done or not: open the store again, and see what it has before any is repeated";
+
 const NO_INPUT: &str = "standard input could not be read";
 
 const NO_CLOCK: &str = "the system did not tell the time; try again";
@@ -203,9 +209,13 @@ fn explain_store_failure<E: Write>(
     match failure {
         StoreFailure::Unread => tell_unread(rt, asked, err),
         StoreFailure::NoShape(_) => tell_no_shape(rt, asked, err),
-        StoreFailure::NotMade(InitError::Refused(fault))
-        | StoreFailure::NotServed(ServeError::Ended(DeskFailure::Fault(fault)))
-        | StoreFailure::Refused(fault) => tell_refused(rt, asked, &notes, *fault, err),
+        StoreFailure::NotMade(InitError::Refused(fault)) | StoreFailure::Refused(fault) => {
+            tell_refused(rt, asked, &notes, *fault, err)
+        }
+        StoreFailure::NotServed(ServeError::Ended(DeskFailure::Fault(fault))) => {
+            tell_refused(rt, asked, &notes, *fault, err)?;
+            tell_doubt(*fault, err)
+        }
         StoreFailure::NotMade(InitError::StoreIsThere) if is_block_device(rt, asked) => {
             tell_of(err, asked, A_DEVICE)
         }
@@ -218,6 +228,16 @@ fn explain_store_failure<E: Write>(
         StoreFailure::NotServed(ServeError::Unregistered(_)) => tell(err, NOT_REGISTERED),
         StoreFailure::Input => tell(err, NO_INPUT),
         StoreFailure::NotServed(ServeError::Ended(DeskFailure::Output)) => tell(err, NO_ANSWERS),
+    }
+}
+
+// Tells that requests may be done, where a store may have been served before the fault.
+fn tell_doubt<E: Write>(fault: Fault, err: &mut E) -> io::Result<()> {
+    match fault {
+        Fault::Memory | Fault::Device | Fault::Closed | Fault::Unknown | Fault::Spent => {
+            tell(err, NOT_ANSWERED)
+        }
+        _ => Ok(()),
     }
 }
 
@@ -439,6 +459,7 @@ fn tell_refused<E: Write>(
             };
             tell_device(rt, asked, path, wanted, size_asked(rt, asked, notes), err)
         }
+        (Fault::Unknown, _) if matches!(asked, Asked::Serve(_)) => tell_of(err, asked, UNSURE),
         (Fault::Unknown, _) if matches!(asked, Asked::Init(_)) => tell_of(
             err,
             asked,

@@ -23,7 +23,7 @@ not_both b is_false is_true = false≢true (sym is_false ∙ is_true)
 pub all_and_one : {X : Type 0} (P : X → Type 0) (xs : List X) (x : X) → All P xs → P x → All P (xs ++ x ∷ [])
 all_and_one P xs x all p = All-append P xs (x ∷ []) all (All-cons P x [] p (All-nil P))
 
--- the transaction that the entry at a place begins, and that none stands behind the last
+-- the transaction that the entry at an index begins, and that none stands behind the last
 pub begun_here : (es : List ScriptEntry) (i : ℕ) (e : ScriptEntry) → i < length es → e ≡ get_or es i e → begun_at es i ≡ begun_by e
 begun_here [] i e within is = absurd (omega arith)
 begun_here (x ∷ es) zero e within is = ap begun_by (sym is)
@@ -107,7 +107,7 @@ each_cause P a b c d e f g h i j BadArguments = h
 each_cause P a b c d e f g h i j UnknownName = i
 each_cause P a b c d e f g h i j TooManyRetires = j
 
--- what holds below a place and there holds up to it
+-- what holds below a number and of it holds up to it
 pub each_more : (P : ℕ → Type 0) (k : ℕ) → ((i : ℕ) → i < k → P i) → P k → (i : ℕ) → i < k + 1 → P i
 each_more P k before at i below = by (below_or_at i k below)
   where

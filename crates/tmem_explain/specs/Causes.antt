@@ -65,12 +65,12 @@ may_be_told wanted c = true
 -- why a call was refused, and what to do
 abbrev pub call_help : CallCause → List ℕ
 call_help call.NoPermission = codes "this user may not use it; look at its rights, at those of each folder on the path, and at its attributes (lsattr), and change what forbids it, or run as its owner"
-call_help call.ReadOnly = codes "its file system is mounted read-only; mount it for writing, or name a path on another"
-call_help call.NoRoom = codes "there is no room on its file system, or no quota is left; free some (df, df -i, quota), or name a path on another"
+call_help call.ReadOnly = codes "its file system is mounted read-only; look why (dmesg), and mount it for writing; only for a new file name a path on another"
+call_help call.NoRoom = codes "there is no room on its file system, or no quota is left; free some (df, df -i, quota); only for a new file name a path on another"
 call_help call.LongName = codes "the path or its last part is too long; name one whose last part has at most 250 bytes, for init 245 (STORE.json)"
 call_help call.Limit = codes "this process may not write a file so long (ulimit -f); raise that limit, and run the program again"
 call_help call.Circle = codes "links on this path lead in a circle; mend them, or name the file"
-call_help call.DiskError = codes "the disk reports an error (EIO); look into the system's log (dmesg), copy what can still be read, and restore a copy on another disk"
+call_help call.DiskError = codes "the disk reports an error (EIO); look into the system's log (dmesg); make a new file on another disk; copy one that was there to another disk, and only if tmem show finds that copy not whole use an older one (what that lacks is lost)"
 call_help call.Other = codes "a call on it failed, for a reason that this look does not show; look at its rights, at room (df), at limits (ulimit -f, ulimit -n), whether the device is read-only, and into the system's log (dmesg)"
 
 -- why a file could not be used, and what to do
@@ -86,8 +86,8 @@ device_help cause.NameInDoubt = codes "it has a second name, as a new file has (
 device_help cause.MissingFolder = codes "its folder is not there; make it, or check the path"
 device_help cause.NoFolder = codes "a part of this path, or of a link on it, is used as a folder and is none; check the path"
 device_help cause.Slash = codes "it ends in /, as the path of a folder does; name a file"
-device_help cause.ClosedFolder = codes "this user may not make a file in its folder; change the folder's rights or attributes (lsattr), or name a path in another"
+device_help cause.ClosedFolder = codes "this user may not make a file in its folder, or not read it, as its sync needs; change the folder's rights or attributes (lsattr), or name a path in another"
 device_help cause.NoLinks = codes "its file system makes no hard links, by which a new file gets its name; name a path on another"
 device_help cause.NoBytes = codes "the device has 0 bytes; look whether anything is attached to it"
-device_help cause.SecondName = codes "it has a second name, as a new file NAME has NAME.new0 until its folder is synced, and its folder cannot be synced; let one who may read it do that (sync FOLDER), and then remove NAME.new0, never NAME"
+device_help cause.SecondName = codes "it has a second name, as a new file NAME has NAME.new0 until its folder is synced, and its folder cannot be synced; let one who may read it do that (sync FOLDER), and then remove NAME.new0, never NAME; if that fails too, look into the system's log (dmesg)"
 device_help (cause.Call c) = call_help c

@@ -22,9 +22,9 @@ fault_help fault.NotFormatted = codes "this does not begin as a store; check the
 fault_help fault.Damaged =
     codes "the file is not as tmem leaves one: something else changed it, or a later version of tmem wrote it; run that version, or else move the file away and put a copy in its place (nothing repairs it, and what the copy lacks is lost)"
 fault_help (fault.Missing name) =
-    codes "the invariant " ++ name ++ codes " is registered in the store, and the program or shape has none of this name; open the store with the one that it belongs to"
+    codes "the invariant " ++ name ++ codes " is registered in the store, and the program or shape has none of this name; open the store with the one that it belongs to; if none ever had this name, something changed the file"
 fault_help (fault.Broken name) =
-    codes "the invariant " ++ name ++ codes " is registered in the store, and false of its values; compare what it means in the program or shape now and before, or restore a copy"
+    codes "the invariant " ++ name ++ codes " is registered in the store, and false of its values; compare what it means in the program or shape now and before; if that differs, open the store with what it meant before; only if not, something changed the file: move it away, and put a copy in its place (what the copy lacks is lost)"
 fault_help (fault.BadPlan c) = cause_text c ++ codes "; change the transaction"
 fault_help fault.BadName = codes "a name is not 1 to 16 letters from a to z, or stands twice, or there are more than 64; change the program"
 fault_help fault.BadFootprint = codes "an invariant is over no variable, over more than 16, over one twice, or over one that the store lacks (they count from 0); correct that invariant"
@@ -36,7 +36,7 @@ fault_help fault.Geometry =
 -- what to do where an opening refuses bytes by a fault: whether no store is so short, and whether they were read without a lock
 abbrev help_of : Fault → Bool → Bool → List ℕ
 help_of fault.Geometry true shown = codes "these bytes are too few for a store; check the path, and restore a copy only if a store was there"
-help_of fault.Geometry false shown = codes "the file was cut off, or is no store; restore a copy, or check the path"
+help_of fault.Geometry false shown = codes "the file was cut off, or is no store; check the path, or move it away and put a copy in its place (what the copy lacks is lost)"
 help_of fault.Damaged no_store true = codes "if a program has it open, look again; else " ++ fault_help fault.Damaged
 help_of f no_store shown = fault_help f
 
@@ -52,7 +52,7 @@ numbers_help (numbers.Other vars slots had_vars had_slots) =
     ++ (codes " and " ++ (decimal slots ++ codes " were asked for; state its own (if those were its own before, something changed the file: restore a copy)")))))))
 numbers_help (numbers.Short vars slots has wants) =
     codes "it has " ++ (decimal has ++ (codes " bytes, and a store of " ++ (decimal vars ++ (codes " variables and " ++ (decimal slots ++ (codes " log slots has "
-    ++ (decimal wants ++ codes "; check the path, or restore a copy")))))))
+    ++ (decimal wants ++ codes "; check the path, or move it away and put a copy in its place (what the copy lacks is lost)")))))))
 numbers_help (numbers.NoRoom has wants) =
     codes "it has " ++ (decimal has ++ (codes " bytes, and the store takes " ++ (decimal wants ++ codes "; if a store was there, restore a copy; else make it at least so long, or name another")))
 numbers_help (numbers.NotBlank has wants) =

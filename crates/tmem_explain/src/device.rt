@@ -102,16 +102,16 @@ impl fmt::Display for CallCause {
             CallCause::NoPermission =>
                 "this user may not use it; look at its rights, at those of each folder on the path, and at its attributes (lsattr), and change what forbids it, or run as its owner",
             CallCause::ReadOnly =>
-                "its file system is mounted read-only; mount it for writing, or name a path on another",
+                "its file system is mounted read-only; look why (dmesg), and mount it for writing; only for a new file name a path on another",
             CallCause::NoRoom =>
-                "there is no room on its file system, or no quota is left; free some (df, df -i, quota), or name a path on another",
+                "there is no room on its file system, or no quota is left; free some (df, df -i, quota); only for a new file name a path on another",
             CallCause::LongName =>
                 "the path or its last part is too long; name one whose last part has at most 250 bytes, for init 245 (STORE.json)",
             CallCause::Limit =>
                 "this process may not write a file so long (ulimit -f); raise that limit, and run the program again",
             CallCause::Circle => "links on this path lead in a circle; mend them, or name the file",
             CallCause::DiskError =>
-                "the disk reports an error (EIO); look into the system's log (dmesg), copy what can still be read, and restore a copy on another disk",
+                "the disk reports an error (EIO); look into the system's log (dmesg); make a new file on another disk; copy one that was there to another disk, and only if tmem show finds that copy not whole use an older one (what that lacks is lost)",
             CallCause::Other =>
                 "a call on it failed, for a reason that this look does not show; look at its rights, at room (df), at limits (ulimit -f, ulimit -n), whether the device is read-only, and into the system's log (dmesg)",
         })
@@ -142,13 +142,13 @@ impl fmt::Display for DeviceCause {
                 "a part of this path, or of a link on it, is used as a folder and is none; check the path",
             DeviceCause::Slash => "it ends in /, as the path of a folder does; name a file",
             DeviceCause::ClosedFolder =>
-                "this user may not make a file in its folder; change the folder's rights or attributes (lsattr), or name a path in another",
+                "this user may not make a file in its folder, or not read it, as its sync needs; change the folder's rights or attributes (lsattr), or name a path in another",
             DeviceCause::NoLinks =>
                 "its file system makes no hard links, by which a new file gets its name; name a path on another",
             DeviceCause::NoBytes =>
                 "the device has 0 bytes; look whether anything is attached to it",
             DeviceCause::SecondName =>
-                "it has a second name, as a new file NAME has NAME.new0 until its folder is synced, and its folder cannot be synced; let one who may read it do that (sync FOLDER), and then remove NAME.new0, never NAME",
+                "it has a second name, as a new file NAME has NAME.new0 until its folder is synced, and its folder cannot be synced; let one who may read it do that (sync FOLDER), and then remove NAME.new0, never NAME; if that fails too, look into the system's log (dmesg)",
             DeviceCause::Call(cause) => return write!(f, "{cause}"),
         };
         f.write_str(text)

@@ -53,11 +53,11 @@ impl fmt::Display for FaultHelp {
             ),
             Fault::Missing(name) => write!(
                 f,
-                "the invariant {name} is registered in the store, and the program or shape has none of this name; open the store with the one that it belongs to"
+                "the invariant {name} is registered in the store, and the program or shape has none of this name; open the store with the one that it belongs to; if none ever had this name, something changed the file"
             ),
             Fault::Broken(name) => write!(
                 f,
-                "the invariant {name} is registered in the store, and false of its values; compare what it means in the program or shape now and before, or restore a copy"
+                "the invariant {name} is registered in the store, and false of its values; compare what it means in the program or shape now and before; if that differs, open the store with what it meant before; only if not, something changed the file: move it away, and put a copy in its place (what the copy lacks is lost)"
             ),
             Fault::BadPlan(cause) => write!(f, "{}; change the transaction", words_of(*cause)),
             Fault::BadName => write!(
@@ -113,7 +113,7 @@ impl fmt::Display for RefusalHelp {
             ),
             Fault::Geometry => write!(
                 f,
-                "the file was cut off, or is no store; restore a copy, or check the path"
+                "the file was cut off, or is no store; check the path, or move it away and put a copy in its place (what the copy lacks is lost)"
             ),
             Fault::Damaged if is_shown => write!(
                 f,

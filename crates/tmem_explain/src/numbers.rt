@@ -111,7 +111,7 @@ impl fmt::Display for NumbersHelp {
                 wants,
             } => write!(
                 f,
-                "it has {has} bytes, and a store of {vars} variables and {slots} log slots has {wants}; check the path, or restore a copy"
+                "it has {has} bytes, and a store of {vars} variables and {slots} log slots has {wants}; check the path, or move it away and put a copy in its place (what the copy lacks is lost)"
             ),
             NumbersHelp::NoRoom { has, wants } => write!(
                 f,
