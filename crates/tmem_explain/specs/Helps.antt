@@ -22,9 +22,9 @@ fault_help fault.NotFormatted = codes "this does not begin as a store; check the
 fault_help fault.Damaged =
     codes "the file is not as tmem leaves one: something else changed it, or a later version of tmem wrote it; run that version, or else move the file away and put a copy in its place (nothing repairs it, and what the copy lacks is lost)"
 fault_help (fault.Missing name) =
-    codes "the invariant " ++ name ++ codes " is registered in the store, and the program or shape has none of this name; open the store with the one that it belongs to; if none ever had this name, something changed the file"
+    codes "the invariant " ++ name ++ codes " is registered in the store, and the program or shape has none of this name; check the path; if it is the one, open the store with the program or shape that it belongs to; only if none of this very store ever had this name, something changed the file: move it away, and put a copy in its place (what the copy lacks is lost)"
 fault_help (fault.Broken name) =
-    codes "the invariant " ++ name ++ codes " is registered in the store, and false of its values; compare what it means in the program or shape now and before; if that differs, open the store with what it meant before; only if not, something changed the file: move it away, and put a copy in its place (what the copy lacks is lost)"
+    codes "the invariant " ++ name ++ codes " is registered in the store, and false of its values; check the path; if it is the one, compare what it means in the program or shape now and before; if that differs, open the store with what it meant before; only if not, something changed the file: move it away, and put a copy in its place (what the copy lacks is lost)"
 fault_help (fault.BadPlan c) = cause_text c ++ codes "; change the transaction"
 fault_help fault.BadName = codes "a name is not 1 to 16 letters from a to z, or stands twice, or there are more than 64; change the program"
 fault_help fault.BadFootprint = codes "an invariant is over no variable, over more than 16, over one twice, or over one that the store lacks (they count from 0); correct that invariant"
@@ -49,7 +49,7 @@ numbers_help (numbers.Limits vars slots) =
     codes "a store has 1 to 1024 variables and 2 to 64 log slots, and " ++ (decimal vars ++ (codes " and " ++ (decimal slots ++ codes " were asked for")))
 numbers_help (numbers.Other vars slots had_vars had_slots) =
     codes "the store has " ++ (decimal had_vars ++ (codes " variables and " ++ (decimal had_slots ++ (codes " log slots, and " ++ (decimal vars
-    ++ (codes " and " ++ (decimal slots ++ codes " were asked for; state its own (if those were its own before, something changed the file: restore a copy)")))))))
+    ++ (codes " and " ++ (decimal slots ++ codes " were asked for; check the path; if it is the one, state its own; only if this very file had the others before, something changed it: move it away, and put a copy in its place (what the copy lacks is lost)")))))))
 numbers_help (numbers.Short vars slots has wants) =
     codes "it has " ++ (decimal has ++ (codes " bytes, and a store of " ++ (decimal vars ++ (codes " variables and " ++ (decimal slots ++ (codes " log slots has "
     ++ (decimal wants ++ codes "; check the path, or move it away and put a copy in its place (what the copy lacks is lost)")))))))

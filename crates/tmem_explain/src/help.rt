@@ -53,11 +53,11 @@ impl fmt::Display for FaultHelp {
             ),
             Fault::Missing(name) => write!(
                 f,
-                "the invariant {name} is registered in the store, and the program or shape has none of this name; open the store with the one that it belongs to; if none ever had this name, something changed the file"
+                "the invariant {name} is registered in the store, and the program or shape has none of this name; check the path; if it is the one, open the store with the program or shape that it belongs to; only if none of this very store ever had this name, something changed the file: move it away, and put a copy in its place (what the copy lacks is lost)"
             ),
             Fault::Broken(name) => write!(
                 f,
-                "the invariant {name} is registered in the store, and false of its values; compare what it means in the program or shape now and before; if that differs, open the store with what it meant before; only if not, something changed the file: move it away, and put a copy in its place (what the copy lacks is lost)"
+                "the invariant {name} is registered in the store, and false of its values; check the path; if it is the one, compare what it means in the program or shape now and before; if that differs, open the store with what it meant before; only if not, something changed the file: move it away, and put a copy in its place (what the copy lacks is lost)"
             ),
             Fault::BadPlan(cause) => write!(f, "{}; change the transaction", words_of(*cause)),
             Fault::BadName => write!(
