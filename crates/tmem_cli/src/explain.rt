@@ -47,7 +47,7 @@ const NO_INPUT: &str = "standard input could not be read";
 const NO_CLOCK: &str = "the system did not tell the time; try again";
 
 const NOT_REGISTERED: &str =
-    "if it should have transactions that tmem show PATH does not tell, something changed the file: move it away, and put a copy in its place (what the copy lacks is lost; this opening may have closed slots of its log); only if it was made before the shape had this invariant, serve it with a shape in which it lacks always, let a transaction check it, and try again";
+    "check the paths of the store and of its shape, since another service's store looks the same; if both are the ones, and the store should have transactions that tmem show PATH does not tell, something changed the file: move it away, and put a copy in its place (what the copy lacks is lost; this opening may have closed slots of its log); only if the store was made before its shape had this invariant, serve it with its own shape in which this one lacks always, let a transaction check it, and try again";
 
 const EMPTY_FILE: &str = "the file is empty";
 
@@ -64,7 +64,7 @@ const TEXT_UNREAD: &str =
 const A_STORE: &str = "it is a store already; serve that store, or name another path";
 
 const CUT_STORE: &str =
-    "it begins as a store and was cut off; check the path; if it is the one, move it away, and put a copy in its place (what the copy lacks is lost) or make the store anew; or name another path";
+    "it begins as a store and was cut off; check the path; if it is the one, move it away, and put a copy in its place (what the copy lacks is lost); only if nothing in it is needed, make the store anew (what was paid looks unpaid then); or name another path";
 
 const TOO_SHORT: &str =
     "it has fewer bytes than the store takes; if a store was there, restore a copy; else make it longer if all of them are 0, or name another";

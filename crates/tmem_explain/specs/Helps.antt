@@ -24,7 +24,7 @@ fault_help fault.Damaged =
 fault_help (fault.Missing name) =
     codes "the invariant " ++ name ++ codes " is registered in the store, and the program or shape has none of this name; check the path; if it is the one, open the store with the program or shape that it belongs to; only if none of this very store ever had this name, something changed the file: move it away, and put a copy in its place (what the copy lacks is lost)"
 fault_help (fault.Broken name) =
-    codes "the invariant " ++ name ++ codes " is registered in the store, and false of its values; check the path; if it is the one, compare what it means in the program or shape now and before; if that differs, open the store with what it meant before; only if not, something changed the file: move it away, and put a copy in its place (what the copy lacks is lost)"
+    codes "the invariant " ++ name ++ codes " is registered in the store, and false of its values; check both paths; if they are the ones, compare what it means in the program or shape now and before; if that differs, open the store with what it meant before; only if not, something changed the file: move it away, and put a copy in its place (what the copy lacks is lost)"
 fault_help (fault.BadPlan c) = cause_text c ++ codes "; change the transaction"
 fault_help fault.BadName = codes "a name is not 1 to 16 letters from a to z, or stands twice, or there are more than 64; change the program"
 fault_help fault.BadFootprint = codes "an invariant is over no variable, over more than 16, over one twice, or over one that the store lacks (they count from 0); correct that invariant"
@@ -49,7 +49,7 @@ numbers_help (numbers.Limits vars slots) =
     codes "a store has 1 to 1024 variables and 2 to 64 log slots, and " ++ (decimal vars ++ (codes " and " ++ (decimal slots ++ codes " were asked for")))
 numbers_help (numbers.Other vars slots had_vars had_slots) =
     codes "the store has " ++ (decimal had_vars ++ (codes " variables and " ++ (decimal had_slots ++ (codes " log slots, and " ++ (decimal vars
-    ++ (codes " and " ++ (decimal slots ++ codes " were asked for; check the path; if it is the one, state its own; only if this very file had the others before, something changed it: move it away, and put a copy in its place (what the copy lacks is lost)")))))))
+    ++ (codes " and " ++ (decimal slots ++ codes " were asked for; check both paths; open the store with the shape or script that it was made with (to change the numbers in another opens it under other invariants); only if this very file had the others before, something changed it: move it away, and put a copy in its place (what the copy lacks is lost)")))))))
 numbers_help (numbers.Short vars slots has wants) =
     codes "it has " ++ (decimal has ++ (codes " bytes, and a store of " ++ (decimal vars ++ (codes " variables and " ++ (decimal slots ++ (codes " log slots has "
     ++ (decimal wants ++ codes "; check the path, or move it away and put a copy in its place (what the copy lacks is lost)")))))))

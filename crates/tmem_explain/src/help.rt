@@ -57,7 +57,7 @@ impl fmt::Display for FaultHelp {
             ),
             Fault::Broken(name) => write!(
                 f,
-                "the invariant {name} is registered in the store, and false of its values; check the path; if it is the one, compare what it means in the program or shape now and before; if that differs, open the store with what it meant before; only if not, something changed the file: move it away, and put a copy in its place (what the copy lacks is lost)"
+                "the invariant {name} is registered in the store, and false of its values; check both paths; if they are the ones, compare what it means in the program or shape now and before; if that differs, open the store with what it meant before; only if not, something changed the file: move it away, and put a copy in its place (what the copy lacks is lost)"
             ),
             Fault::BadPlan(cause) => write!(f, "{}; change the transaction", words_of(*cause)),
             Fault::BadName => write!(

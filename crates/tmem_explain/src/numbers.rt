@@ -102,7 +102,7 @@ impl fmt::Display for NumbersHelp {
                 had_slots,
             } => write!(
                 f,
-                "the store has {had_vars} variables and {had_slots} log slots, and {vars} and {slots} were asked for; check the path; if it is the one, state its own; only if this very file had the others before, something changed it: move it away, and put a copy in its place (what the copy lacks is lost)"
+                "the store has {had_vars} variables and {had_slots} log slots, and {vars} and {slots} were asked for; check both paths; open the store with the shape or script that it was made with (to change the numbers in another opens it under other invariants); only if this very file had the others before, something changed it: move it away, and put a copy in its place (what the copy lacks is lost)"
             ),
             NumbersHelp::Short {
                 vars,
