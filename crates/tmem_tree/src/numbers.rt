@@ -6,8 +6,8 @@ ghost use Rattle.tmem_tree.specs.Numbers.{with_number};
 
 use crate::tx::Tx;
 
-/// Changes the number of the `Put` at this index in a tree. Answers the index that is left behind the tree, or
-/// none once the number is changed.
+/// Changes the number of the `Put` at this index in a tree. Answers none then; or where the tree has too few of them, the
+/// index less as many as it has.
 pub(crate) fn change_number(tx: &mut Tx, index: usize, number: i64) -> Option<usize>
     ensures tree { tx.new ≡ with_number index number tx.old }
     ensures left { IfSome result (λ left. left + count is_put tx.old ≡ index) }

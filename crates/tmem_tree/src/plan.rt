@@ -148,7 +148,7 @@ impl Plan {
         self.is_short
     }
 
-    /// Changes the number of the `Put` at this index. They are counted from 0, in the order in which the `Put`s stand in
+    /// Changes the number of the `Put` at this index. The `Put`s are counted from 0, in the order in which they stand in
     /// the tree: `then` before `other`, and the first branch before the second. Answers false, and changes nothing, where
     /// there is no such index. Allocates nothing.
     #[tactic(auto, using(crate::proofs::Numbered::numbers_changed, crate::proofs::Alike::unchanged_past))]

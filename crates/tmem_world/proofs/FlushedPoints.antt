@@ -84,12 +84,12 @@ module _ {D T S : Type 0} {d t z : _} (program : Program) (w w' : World D T S d 
       next : AreNext program m.opened m.committed (m.durable - m.opened.count) es rest
       next = are_next program m.opened m.committed (m.durable - m.opened.count) es rest r.numbers.each (omega (arith, r.numbers.durable, r.numbers.doubtful)) (sym was.waiting ∙ waited)
 
-      place : (m.durable + length es) - m.opened.count ≡ (m.durable - m.opened.count) + length es
-      place = omega (arith, r.numbers.opened)
+      further : (m.durable + length es) - m.opened.count ≡ (m.durable - m.opened.count) + length es
+      further = omega (arith, r.numbers.opened)
 
       -- the journal's state with the batch is the order cut behind it
       with_batch : fold (journal.journal_state o.journal) es ≡ cut program m (m.durable + length es)
-      with_batch = ap (λ (s : State). fold s es) was.durable ∙ sym (ap (λ (k : ℕ). serial_state program m.opened (take k m.committed)) place ∙ next.state)
+      with_batch = ap (λ (s : State). fold s es) was.durable ∙ sym (ap (λ (k : ℕ). serial_state program m.opened (take k m.committed)) further ∙ next.state)
 
       reached : m.durable + length es ≤ m.opened.count + length m.committed
       reached = omega (arith, next.below, r.numbers.opened)
@@ -117,7 +117,7 @@ module _ {D T S : Type 0} {d t z : _} (program : Program) (w w' : World D T S d 
       wrote : (n : ℕ) → journals.Flushes o.journal es (Ok n) o'.journal → waiting_of o'.core ≡ rest → (journal.journal_device o'.journal).failures ≡ (journal.journal_device o.journal).failures → Next (reply.Durable n)
       wrote n it waits failures =
           let is : m.durable + length es ≡ n = omega (arith, it.1, count-fold (journal.journal_state o.journal) es, o.known, was.number) in
-          let next_is : drop (n - m.opened.count) (serial_effects program m.opened m.committed) ≡ rest = ap (λ (k : ℕ). drop (k - m.opened.count) (serial_effects program m.opened m.committed)) (sym is) ∙ ap (λ (k : ℕ). drop k (serial_effects program m.opened m.committed)) place ∙ next.waits in
+          let next_is : drop (n - m.opened.count) (serial_effects program m.opened m.committed) ≡ rest = ap (λ (k : ℕ). drop (k - m.opened.count) (serial_effects program m.opened m.committed)) (sym is) ∙ ap (λ (k : ℕ). drop k (serial_effects program m.opened m.committed)) further ∙ next.waits in
           let here : fold (journal.journal_state o.journal) es ≡ cut program m n = with_batch ∙ ap (cut program m) is in
           let m' : WorldModel = record m { durable = n; doubtful = n; position = next_slot m.position } in (
             m',

@@ -269,11 +269,11 @@ AllZip-at R (a ∷ xs) [] k d e each below = absurd each
 AllZip-at R (a ∷ xs) (b ∷ ys) zero d e each below = each.0
 AllZip-at R (a ∷ xs) (b ∷ ys) (suc k) d e each below = AllZip-at R xs ys k d e each.1 (omega arith)
 
--- what stands at a place, whatever would stand where there is none
-pub at_place : {A : Type 0} (xs : List A) (k : ℕ) (d e : A) → k < length xs → get_or xs k d ≡ get_or xs k e
-at_place [] k d e below = absurd (omega arith)
-at_place (x ∷ xs) zero d e below = refl
-at_place (x ∷ xs) (suc k) d e below = at_place xs k d e (omega arith)
+-- what stands at an index, whatever would stand where there is none
+pub at_index : {A : Type 0} (xs : List A) (k : ℕ) (d e : A) → k < length xs → get_or xs k d ≡ get_or xs k e
+at_index [] k d e below = absurd (omega arith)
+at_index (x ∷ xs) zero d e below = refl
+at_index (x ∷ xs) (suc k) d e below = at_index xs k d e (omega arith)
 
 -- the attempt of a number
 pub attempt_holds : {D T S : Type 0} {d t s : _} (program : Program) (w : World D T S d t s) (m : WorldModel) (k : ℕ) (x : WorldAttempt) → Represents program w m → k < length w.attempts.items → x ≡ get_or w.attempts.items k x → AttemptIs program x (attempt_at m k)
