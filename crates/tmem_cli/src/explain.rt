@@ -42,12 +42,13 @@ const UNSURE: &str =
 const NOT_ANSWERED: &str =
     "if it had told opened, each request without an answer, or answered by this fault, may be done or not: open the store again, and see what it has before any is repeated";
 
-const NO_INPUT: &str = "standard input could not be read";
+const NO_INPUT: &str =
+    "standard input could not be read; give a file or a pipe (it may be closed, or a folder)";
 
 const NO_CLOCK: &str = "the system did not tell the time; try again";
 
 const NOT_REGISTERED: &str =
-    "check the paths of the store and of its shape, since another service's store looks the same; if both are the ones, and the store should have transactions that tmem show PATH does not tell, something changed the file: move it away, and put a copy in its place (what the copy lacks is lost; this opening may have closed slots of its log); only if the store was made before its shape had this invariant, serve it with its own shape in which this one lacks always, let a transaction check it, and try again";
+    "keep a copy of this file before all else; then check its path and that of its shape, since another service's store looks the same; if both are the ones, and the store should have transactions that tmem show PATH does not tell, something changed the file: move it away, and put an older copy in its place (what that lacks is lost); only if the store was made before its shape had this invariant, serve it with its own shape in which this one lacks always, let a transaction check it (which cannot be undone), and try again";
 
 const EMPTY_FILE: &str = "the file is empty";
 
@@ -56,15 +57,16 @@ const EMPTY_INPUT: &str = "standard input is empty";
 const NO_SHAPE: &str = "no store was touched; correct that place, and try again";
 
 const OTHER_TEXT: &str =
-    "a shape stands beside its store, as STORE.json, and what has that path is not this one; move it away, or name another path";
+    "a shape stands beside its store, as STORE.json, and what has that path is not this one; check the path; if a store was there, restore a copy of it; else move that shape away, or name another path";
 
 const TEXT_UNREAD: &str =
     "what has the path of its shape, STORE.json, cannot be read; look at its rights, or move it away";
 
-const A_STORE: &str = "it is a store already; serve that store, or name another path";
+const A_STORE: &str =
+    "it is a store already; serve that one; name another path only for another store (a new one knows none of the transactions of this one)";
 
 const CUT_STORE: &str =
-    "it begins as a store and was cut off; check the path; if it is the one, move it away, and put a copy in its place (what the copy lacks is lost); only if nothing in it is needed, make the store anew (what was paid looks unpaid then); or name another path";
+    "it begins as a store and ends too soon; check the path; if it is the one, move it away, and put a copy in its place (what the copy lacks is lost); only if nothing that was in it is needed, move it away and make the store anew, or name another path (what was paid looks unpaid in a new store)";
 
 const TOO_SHORT: &str =
     "it has fewer bytes than the store takes; if a store was there, restore a copy; else make it longer if all of them are 0, or name another";
@@ -225,7 +227,9 @@ fn explain_store_failure<E: Write>(
         StoreFailure::NotMade(InitError::NotBlank) => tell_of(err, asked, NOT_BLANK),
         StoreFailure::NotMade(InitError::TextUnread(_)) => tell_of(err, asked, TEXT_UNREAD),
         StoreFailure::NotMade(InitError::TextIsThere) => tell_of(err, asked, OTHER_TEXT),
-        StoreFailure::NotServed(ServeError::Unregistered(_)) => tell(err, NOT_REGISTERED),
+        StoreFailure::NotServed(ServeError::Unregistered(_)) => {
+            tell_of(err, asked, NOT_REGISTERED)
+        }
         StoreFailure::Input => tell(err, NO_INPUT),
         StoreFailure::NotServed(ServeError::Ended(DeskFailure::Output)) => tell(err, NO_ANSWERS),
     }

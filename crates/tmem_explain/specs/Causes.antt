@@ -89,5 +89,5 @@ device_help cause.Slash = codes "it ends in /, as the path of a folder does; nam
 device_help cause.ClosedFolder = codes "this user may not make a file in its folder, or not read it, as its sync needs; change the folder's rights or attributes (lsattr), or name a path in another"
 device_help cause.NoLinks = codes "its file system makes no hard links, by which a new file gets its name; name a path on another"
 device_help cause.NoBytes = codes "the device has 0 bytes; look whether anything is attached to it"
-device_help cause.SecondName = codes "it has a second name, as a new file NAME has NAME.new0 until its folder is synced, and its folder cannot be synced; let one who may read it do that (sync FOLDER), and then remove NAME.new0, never NAME, and only if ls -i shows the same number for both; if that fails, too, look into the system's log (dmesg)"
+device_help cause.SecondName = codes "it has a second name, as a new file NAME has NAME.new0 until its folder is synced, and this user cannot sync its folder; let this user read the folder, and try again; or let one who may read it do the sync (sync FOLDER), and then remove NAME.new0, never NAME, and only if ls -i shows the same number for both (find FOLDER -samefile NAME tells other names); if the sync fails, too, look into the system's log (dmesg)"
 device_help (cause.Call c) = call_help c

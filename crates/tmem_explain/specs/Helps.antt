@@ -22,9 +22,9 @@ fault_help fault.NotFormatted = codes "this does not begin as a store; check the
 fault_help fault.Damaged =
     codes "the file is not as tmem leaves one: something else changed it, or a later version of tmem wrote it; run that version, or else move the file away and put a copy in its place (nothing repairs it, and what the copy lacks is lost)"
 fault_help (fault.Missing name) =
-    codes "the invariant " ++ name ++ codes " is registered in the store, and the program or shape has none of this name; check the path; if it is the one, open the store with the program or shape that it belongs to; only if none of this very store ever had this name, something changed the file: move it away, and put a copy in its place (what the copy lacks is lost)"
+    codes "the invariant " ++ name ++ codes " is registered in the store, and this program or shape has none of this name; check both paths; if they are the ones, open the store with the program or shape that used it last; only if that has none of this name, too, something changed the file: move it away, and put a copy in its place (what the copy lacks is lost)"
 fault_help (fault.Broken name) =
-    codes "the invariant " ++ name ++ codes " is registered in the store, and false of its values; check both paths; if they are the ones, compare what it means in the program or shape now and before; if that differs, open the store with what it meant before; only if not, something changed the file: move it away, and put a copy in its place (what the copy lacks is lost)"
+    codes "the invariant " ++ name ++ codes " is registered in the store, and as this program or shape means it, it is false of the store's values; check both paths; if they are the ones, compare what it means here with what it means in the program or shape that used the store last; if that differs, open the store with that one; only if not, something changed the file: move it away, and put a copy in its place (what the copy lacks is lost)"
 fault_help (fault.BadPlan c) = cause_text c ++ codes "; change the transaction"
 fault_help fault.BadName = codes "a name is not 1 to 16 letters from a to z, or stands twice, or there are more than 64; change the program"
 fault_help fault.BadFootprint = codes "an invariant is over no variable, over more than 16, over one twice, or over one that the store lacks (they count from 0); correct that invariant"

@@ -148,7 +148,7 @@ impl fmt::Display for DeviceCause {
             DeviceCause::NoBytes =>
                 "the device has 0 bytes; look whether anything is attached to it",
             DeviceCause::SecondName =>
-                "it has a second name, as a new file NAME has NAME.new0 until its folder is synced, and its folder cannot be synced; let one who may read it do that (sync FOLDER), and then remove NAME.new0, never NAME, and only if ls -i shows the same number for both; if that fails, too, look into the system's log (dmesg)",
+                "it has a second name, as a new file NAME has NAME.new0 until its folder is synced, and this user cannot sync its folder; let this user read the folder, and try again; or let one who may read it do the sync (sync FOLDER), and then remove NAME.new0, never NAME, and only if ls -i shows the same number for both (find FOLDER -samefile NAME tells other names); if the sync fails, too, look into the system's log (dmesg)",
             DeviceCause::Call(cause) => return write!(f, "{cause}"),
         };
         f.write_str(text)

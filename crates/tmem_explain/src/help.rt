@@ -53,11 +53,11 @@ impl fmt::Display for FaultHelp {
             ),
             Fault::Missing(name) => write!(
                 f,
-                "the invariant {name} is registered in the store, and the program or shape has none of this name; check the path; if it is the one, open the store with the program or shape that it belongs to; only if none of this very store ever had this name, something changed the file: move it away, and put a copy in its place (what the copy lacks is lost)"
+                "the invariant {name} is registered in the store, and this program or shape has none of this name; check both paths; if they are the ones, open the store with the program or shape that used it last; only if that has none of this name, too, something changed the file: move it away, and put a copy in its place (what the copy lacks is lost)"
             ),
             Fault::Broken(name) => write!(
                 f,
-                "the invariant {name} is registered in the store, and false of its values; check both paths; if they are the ones, compare what it means in the program or shape now and before; if that differs, open the store with what it meant before; only if not, something changed the file: move it away, and put a copy in its place (what the copy lacks is lost)"
+                "the invariant {name} is registered in the store, and as this program or shape means it, it is false of the store's values; check both paths; if they are the ones, compare what it means here with what it means in the program or shape that used the store last; if that differs, open the store with that one; only if not, something changed the file: move it away, and put a copy in its place (what the copy lacks is lost)"
             ),
             Fault::BadPlan(cause) => write!(f, "{}; change the transaction", words_of(*cause)),
             Fault::BadName => write!(
