@@ -28,13 +28,13 @@ use tmem_shape::StoreShape;
 use tmem_show::{Source, refusal_of};
 
 const NO_OUTPUT: &str =
-    "standard output took no more; look whether its reader has ended, and for room";
+    "standard output took no more; look whether it is closed, or its reader has ended, and for room";
 
 const NO_LINES: &str =
-    "standard output took no more; look whether its reader has ended, and for room; what was not told may be done: see what the store has before any is repeated";
+    "standard output took no more; look whether it is closed, or its reader has ended, and for room; what was not told may be done: see what the store has before any is repeated";
 
 const NO_ANSWERS: &str =
-    "standard output took no more; look whether its reader has ended, and for room; requests without an answer may be done: see what the store has before any is repeated";
+    "standard output took no more; look whether it is closed, or its reader has ended, and for room; requests without an answer may be done: see what the store has before any is repeated";
 
 const UNSURE: &str =
     "a write or sync failed; repeat nothing yet: open the store again, after an error of the disk (dmesg) once the machine was started anew";
@@ -48,7 +48,7 @@ const NO_INPUT: &str =
 const NO_CLOCK: &str = "the system did not tell the time; try again";
 
 const NOT_REGISTERED: &str =
-    "keep a copy of this file before all else; then check its path and that of its shape, since another service's store looks the same; if both are the ones, and the store should have transactions that tmem show PATH does not tell, something changed the file: move it away, and put an older copy in its place (what that lacks is lost); only if the store was made before its shape had this invariant, serve it with its own shape in which this one lacks always, let a transaction check it (which cannot be undone), and try again";
+    "keep a copy of this file before all else; then check its path and that of its shape, since another service's store looks the same; if both are the ones, and the store should have transactions that tmem show PATH does not tell, something changed the file: move it away, and put an older copy in its place (what that lacks is lost); only if the store was made before its shape had this invariant, serve it with its own shape in which this one lacks always, let a transaction check it, and try again";
 
 const EMPTY_FILE: &str = "the file is empty";
 
@@ -69,9 +69,12 @@ const CUT_STORE: &str =
     "it begins as a store and ends too soon; check the path; if it is the one, move it away, and put a copy in its place (what the copy lacks is lost); only if nothing that was in it is needed, move it away and make the store anew, or name another path (what was paid looks unpaid in a new store)";
 
 const TOO_SHORT: &str =
-    "it has fewer bytes than the store takes; if a store was there, restore a copy; else make it longer if all of them are 0, or name another";
+    "it has fewer bytes than the store takes; if a store was there, move this away, and put a copy in its place (what the copy lacks is lost); else make it longer if all of them are 0, or name another";
 
 const NO_STORE: &str = "what is there is no store";
+
+const NO_COPY: &str =
+    "if a store was there, put a copy of it there (a new one knows none of its transactions)";
 
 const UNSEEN: &str = "what is there could not be looked at";
 
@@ -223,6 +226,8 @@ fn explain_store_failure<E: Write>(
         }
         StoreFailure::NotMade(InitError::StoreIsThere | InitError::NotBlank)
             if is_store(rt, asked) => { tell_store(rt, asked, err) }
+        StoreFailure::NotMade(InitError::StoreIsThere | InitError::NotBlank)
+            if is_damaged(rt, asked) => { tell_refused(rt, asked, &notes, Fault::Damaged, err) }
         StoreFailure::NotMade(InitError::StoreIsThere) => tell_no_store(rt, asked, err),
         StoreFailure::NotMade(InitError::NotBlank) => tell_of(err, asked, NOT_BLANK),
         StoreFailure::NotMade(InitError::TextUnread(_)) => tell_of(err, asked, TEXT_UNREAD),
@@ -272,7 +277,7 @@ fn tell_no_store<E: Write>(
         DeviceCause::Call(CallCause::Other) => tell(
             err,
             format_args!(
-                "{path}: {NO_STORE}; if a store was there, restore a copy; else move it away, or name another path"
+                "{path}: {NO_STORE}; if a store was there, move this away, and put a copy in its place (what the copy lacks is lost); else move it away, or name another path"
             ),
         ),
         DeviceCause::Call(cause) => tell(err, format_args!("{path}: {UNSEEN}: {cause}")),
@@ -351,7 +356,21 @@ fn is_store(rt: &(impl Files<File = File> + AllocGlobal), asked: Asked) -> bool 
     }
 }
 
-// The same, and that it was not cut off.
+// Whether an opening refuses its bytes as those of a store that something changed, or that a later version wrote.
+fn is_damaged(rt: &(impl Files<File = File> + AllocGlobal), asked: Asked) -> bool {
+    let Some((path, _)) = store_of(asked) else {
+        return false;
+    };
+    let Ok(source) = Source::read(rt, path) else {
+        return false;
+    };
+    match refusal_of(rt.alloc(), &source) {
+        Ok(Some(refusal)) => matches!(refusal.fault, Fault::Damaged),
+        _ => false,
+    }
+}
+
+// Whether what is to become a store is one that was not cut off.
 fn is_whole_store(rt: &(impl Files<File = File> + AllocGlobal), asked: Asked) -> bool {
     let Some((path, _)) = store_of(asked) else {
         return false;
@@ -434,7 +453,7 @@ fn tell_unserved<E: Write>(
 ) -> io::Result<()> {
     let cause = cause_of(rt, store, Wanted::Read, 0);
     if cause != DeviceCause::Call(CallCause::Other) {
-        return tell_cause(err, store, cause);
+        return tell_store_cause(err, store, cause);
     }
     let Ok(beside) = shape_beside(rt.alloc(), store) else {
         return tell(err, FaultHelp(Fault::Memory));
@@ -504,7 +523,7 @@ fn tell_device<E: Write>(
             }
         }
     }
-    tell_cause(err, path, cause)
+    tell_store_cause(err, path, cause)
 }
 
 // Whether a shape is put beside the store.
@@ -720,6 +739,14 @@ fn tell_call<E: Write>(
         return tell_entry(err, index, Fault::Device, FaultHelp(Fault::Device));
     }
     tell_entry(err, index, Fault::Device, format_args!("{path}: {cause}"))
+}
+
+// Tells why the path of a store could not be used.
+fn tell_store_cause<E: Write>(err: &mut E, path: &str, cause: DeviceCause) -> io::Result<()> {
+    match cause {
+        DeviceCause::Missing => tell(err, format_args!("{path}: {cause}; {NO_COPY}")),
+        _ => tell_cause(err, path, cause),
+    }
 }
 
 // Tells why a path could not be used.

@@ -111,7 +111,7 @@ impl fmt::Display for CallCause {
                 "this process may not write a file so long (ulimit -f); raise that limit, and run the program again",
             CallCause::Circle => "links on this path lead in a circle; mend them, or name the file",
             CallCause::DiskError =>
-                "the disk reports an error (EIO); look into the system's log (dmesg); make a new file on another disk; copy one that was there to another disk, and only if tmem show finds that copy not whole use an older one (what that lacks is lost)",
+                "the disk reports an error (EIO); look into the system's log (dmesg); copy a file that was there to another disk by cp, which skips nothing, and only if that fails, or tmem show finds the copy not whole, use an older one (what that lacks is lost); only a file that was not there yet, make on another disk",
             CallCause::Other =>
                 "a call on it failed, for a reason that this look does not show; look at its rights, at room (df), at limits (ulimit -f, ulimit -n), whether the device is read-only, and into the system's log (dmesg)",
         })
@@ -148,7 +148,7 @@ impl fmt::Display for DeviceCause {
             DeviceCause::NoBytes =>
                 "the device has 0 bytes; look whether anything is attached to it",
             DeviceCause::SecondName =>
-                "it has a second name, as a new file NAME has NAME.new0 until its folder is synced, and this user cannot sync its folder; let this user read the folder, and try again; or let one who may read it do the sync (sync FOLDER), and then remove NAME.new0, never NAME, and only if ls -i shows the same number for both (find FOLDER -samefile NAME tells other names); if the sync fails, too, look into the system's log (dmesg)",
+                "it has a second name, as a new file NAME (readlink -f tells it) has NAME.new0 until its folder is synced, and this user cannot sync its folder; let this user read the folder, and try again; or let one who may read it do the sync (sync FOLDER), and then remove NAME.new0, never NAME, and only if ls -i shows the same number for both (find FOLDER -samefile NAME tells other names); if the sync fails, too, look into the system's log (dmesg)",
             DeviceCause::Call(cause) => return write!(f, "{cause}"),
         };
         f.write_str(text)

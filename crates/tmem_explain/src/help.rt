@@ -21,7 +21,7 @@ impl fmt::Display for FaultHelp {
             ),
             Fault::Device => write!(
                 f,
-                "a call on the file failed; look at its rights, at room (df), at limits (ulimit -f, ulimit -n), whether the device is read-only, and into the system's log (dmesg); then open the store again, and see what it has before anything is repeated"
+                "a call on the file failed, or an earlier one whose end is unknown keeps it closed in this process; look at its rights, at room (df), at limits (ulimit -f, ulimit -n), whether the device is read-only, and into the system's log (dmesg); then open the store again, and see what it has before anything is repeated"
             ),
             Fault::Closed => write!(
                 f,
@@ -45,7 +45,7 @@ impl fmt::Display for FaultHelp {
             ),
             Fault::NotFormatted => write!(
                 f,
-                "this does not begin as a store; check the path, and restore a copy only if a store was there"
+                "this does not begin as a store; check the path; only if a store was there, move this away, and put a copy in its place (what the copy lacks is lost)"
             ),
             Fault::Damaged => write!(
                 f,
@@ -53,11 +53,11 @@ impl fmt::Display for FaultHelp {
             ),
             Fault::Missing(name) => write!(
                 f,
-                "the invariant {name} is registered in the store, and this program or shape has none of this name; check both paths; if they are the ones, open the store with the program or shape that used it last; only if that has none of this name, too, something changed the file: move it away, and put a copy in its place (what the copy lacks is lost)"
+                "the invariant {name} is registered in the store, and this program or shape has none of this name; check both paths; if they are the ones, open the store with the program or shape that used it last, as that was then; only if that had none of this name, too, something changed the file: move it away, and put a copy in its place (what the copy lacks is lost)"
             ),
             Fault::Broken(name) => write!(
                 f,
-                "the invariant {name} is registered in the store, and as this program or shape means it, it is false of the store's values; check both paths; if they are the ones, compare what it means here with what it means in the program or shape that used the store last; if that differs, open the store with that one; only if not, something changed the file: move it away, and put a copy in its place (what the copy lacks is lost)"
+                "the invariant {name} is registered in the store, and as this program or shape means it, it is false of the store's values; check both paths; if they are the ones, compare what it means here with what it meant in the program or shape that used the store last, as that was then; if that differs, open the store with that one; only if not, something changed the file: move it away, and put a copy in its place (what the copy lacks is lost)"
             ),
             Fault::BadPlan(cause) => write!(f, "{}; change the transaction", words_of(*cause)),
             Fault::BadName => write!(
@@ -70,11 +70,11 @@ impl fmt::Display for FaultHelp {
             ),
             Fault::Spent => write!(
                 f,
-                "the count of transactions or of images is at 2^64 - 1, to which no use comes, so something changed the file; restore a copy that has all its transactions, or make a new store of the values that tmem show PATH tells"
+                "the count of transactions or of images is at 2^64 - 1, to which no use comes, so something changed the file; move it away, and put a copy in its place (what the copy lacks is lost)"
             ),
             Fault::NoSeat => write!(
                 f,
-                "all 32 passes were given out; keep passes, or borrow them of the pool"
+                "all 32 passes were given out, and one that was dropped is lost until the store is opened again; keep passes, or share them: acquire_pass lends one, and release_pass hands it back"
             ),
             Fault::Geometry => write!(
                 f,
@@ -109,7 +109,7 @@ impl fmt::Display for RefusalHelp {
         match fault {
             Fault::Geometry if is_of_no_store => write!(
                 f,
-                "these bytes are too few for a store; check the path, and restore a copy only if a store was there"
+                "these bytes are too few for a store; check the path; only if a store was there, move this away, and put a copy in its place (what the copy lacks is lost)"
             ),
             Fault::Geometry => write!(
                 f,

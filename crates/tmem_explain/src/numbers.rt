@@ -119,7 +119,7 @@ impl fmt::Display for NumbersHelp {
             ),
             NumbersHelp::NotBlank { has, wants } => write!(
                 f,
-                "it has {has} bytes, not all of them 0, and the store takes {wants}; name another"
+                "it has {has} bytes, not all of them 0, and the store takes {wants}; if a store was there, move this away, and put a copy in its place; else name another"
             ),
         }
     }
