@@ -74,7 +74,10 @@ const TOO_SHORT: &str =
 const NO_STORE: &str = "what is there is no store";
 
 const NO_COPY: &str =
-    "if a store was there, put a copy of it there (a new one knows none of its transactions)";
+    "only if a store was there and is gone, put a copy there (what the copy lacks is lost)";
+
+const ON_A_DEVICE: &str =
+    "it is a block device: copy its bytes to a file instead of moving it away, and write a copy onto it (dd)";
 
 const UNSEEN: &str = "what is there could not be looked at";
 
@@ -93,7 +96,7 @@ const PLACED_OR_NOT: &str =
     "the device failed while the store was made on it, so it is made or not; look into the system's log (dmesg), start the machine anew after an error of the disk, and give the same words again: they make it, or say that the device is not blank, and then tmem show tells whether it is made; if it is not, fill those bytes with zeros and begin again";
 
 const NOT_BLANK: &str =
-    "it has bytes other than 0 where the store would be, and what is on it would be lost; look first what it is (lsblk, mount), and name another, or fill it with zeros only if nothing on it is needed";
+    "it has bytes other than 0 where the store would be; if a store was there (which lsblk and mount do not show), put a copy in its place (what the copy lacks is lost); else look what it is (lsblk, mount), and name another, or fill it with zeros only if nothing on it is needed";
 
 /// Tells more of why a run ended before its last line, and of each entry that was refused.
 pub(crate) fn explain<E: Write>(
@@ -162,7 +165,10 @@ fn explain_failure<E: Write>(
         ProgramFailure::Script(ScriptError::NoScript) => tell_flaw(rt.alloc(), notes.text(), err),
         ProgramFailure::Script(ScriptError::Unreadable) => tell_unread(rt, asked, err),
         ProgramFailure::Script(ScriptError::Memory(_)) => tell(err, FaultHelp(Fault::Memory)),
-        ProgramFailure::Refused(fault) => tell_refused(rt, asked, notes, *fault, err),
+        ProgramFailure::Refused(fault) => {
+            tell_refused(rt, asked, notes, *fault, err)?;
+            tell_device_too(rt, asked, *fault, err)
+        }
         ProgramFailure::Output if changes_store(asked) => tell(err, NO_LINES),
         ProgramFailure::Output => tell(err, NO_OUTPUT),
         ProgramFailure::Clock => tell(err, NO_CLOCK),
@@ -215,10 +221,12 @@ fn explain_store_failure<E: Write>(
         StoreFailure::Unread => tell_unread(rt, asked, err),
         StoreFailure::NoShape(_) => tell_no_shape(rt, asked, err),
         StoreFailure::NotMade(InitError::Refused(fault)) | StoreFailure::Refused(fault) => {
-            tell_refused(rt, asked, &notes, *fault, err)
+            tell_refused(rt, asked, &notes, *fault, err)?;
+            tell_device_too(rt, asked, *fault, err)
         }
         StoreFailure::NotServed(ServeError::Ended(DeskFailure::Fault(fault))) => {
             tell_refused(rt, asked, &notes, *fault, err)?;
+            tell_device_too(rt, asked, *fault, err)?;
             tell_doubt(*fault, err)
         }
         StoreFailure::NotMade(InitError::StoreIsThere) if is_block_device(rt, asked) => {
@@ -237,6 +245,25 @@ fn explain_store_failure<E: Write>(
         }
         StoreFailure::Input => tell(err, NO_INPUT),
         StoreFailure::NotServed(ServeError::Ended(DeskFailure::Output)) => tell(err, NO_ANSWERS),
+    }
+}
+
+// Tells how a copy gets to its place, where a store was wanted and that is a block device.
+fn tell_device_too<E: Write>(
+    rt: &(impl Files<File = File> + AllocGlobal),
+    asked: Asked,
+    fault: Fault,
+    err: &mut E,
+) -> io::Result<()> {
+    match fault {
+        Fault::NotFormatted
+        | Fault::Damaged
+        | Fault::Missing(_)
+        | Fault::Broken(_)
+        | Fault::Spent
+        | Fault::Geometry
+            if is_store_device(rt, asked) => tell_of(err, asked, ON_A_DEVICE),
+        _ => Ok(()),
     }
 }
 
@@ -411,6 +438,14 @@ fn is_block_device(rt: &(impl Files<File = File> + AllocGlobal), asked: Asked) -
     match fs::metadata(rt, path) {
         Ok(found) => found.file_type().is_block_device(),
         Err(_) => false,
+    }
+}
+
+// Whether that is to have a store already, and has bytes.
+fn is_store_device(rt: &(impl Files<File = File> + AllocGlobal), asked: Asked) -> bool {
+    match asked {
+        Asked::Init(_) => false,
+        _ => is_block_device(rt, asked) && !has_no_bytes(rt, asked),
     }
 }
 

@@ -131,13 +131,16 @@ impl fmt::Display for DeviceCause {
                 "another program has it open (fuser or lsof says which); wait until that ends, or end it if it is not wanted",
             DeviceCause::Folder => "it is a folder; name a file",
             DeviceCause::NoFile => "it is no file and no block device; name one",
-            DeviceCause::Missing => "nothing has this path; check it",
-            DeviceCause::DeadLink => "it is a link to nothing; mend the link, or name a file",
+            DeviceCause::Missing =>
+                "nothing has this path; check it, and that its disk is mounted (findmnt)",
+            DeviceCause::DeadLink =>
+                "it is a link to nothing; look whether the disk that it leads to is mounted (findmnt), mend the link, or name a file",
             DeviceCause::There =>
                 "something has this path, and a new file was to be made; name another path",
             DeviceCause::NameInDoubt =>
                 "it has a second name, as a new file has (PATH.new0) until its folder is synced; if it may have been there before, name another path, and remove nothing; only if it surely was not, this run made it, and that sync failed: look into the system's log (dmesg), and then remove both names",
-            DeviceCause::MissingFolder => "its folder is not there; make it, or check the path",
+            DeviceCause::MissingFolder =>
+                "its folder is not there; check the path, and that its disk is mounted (findmnt); make it only for a new file",
             DeviceCause::NoFolder =>
                 "a part of this path, or of a link on it, is used as a folder and is none; check the path",
             DeviceCause::Slash => "it ends in /, as the path of a folder does; name a file",

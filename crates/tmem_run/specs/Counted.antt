@@ -63,7 +63,7 @@ lost_of c =
 -- what is told of that: where all of them are lost, and where the first ones may be durable
 abbrev pub gone_text : Lost → List ℕ
 gone_text lost =
-    codes "not durable, and so gone: " ++ (decimal lost.count ++ (codes " of the committed transactions, from number " ++ (decimal lost.first ++ codes " on; `durable N` keeps the first N")))
+    codes "not durable, and so gone: " ++ (decimal lost.count ++ (codes " of the committed transactions, from number " ++ (decimal lost.first ++ codes " on: each that no `durable N` kept, as one of the first N, before the next `opened` (which gives the numbers again) or the end")))
 
 abbrev pub doubt_text : Lost → List ℕ
 doubt_text lost =

@@ -169,7 +169,7 @@ impl fmt::Display for Lost {
         } else {
             write!(
                 f,
-                "not durable, and so gone: {count} of the committed transactions, from number {first} on; `durable N` keeps the first N"
+                "not durable, and so gone: {count} of the committed transactions, from number {first} on: each that no `durable N` kept, as one of the first N, before the next `opened` (which gives the numbers again) or the end"
             )
         }
     }
