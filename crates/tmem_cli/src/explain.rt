@@ -96,7 +96,7 @@ const PLACED_OR_NOT: &str =
     "the device failed while the store was made on it, so it is made or not; look into the system's log (dmesg), start the machine anew after an error of the disk, and give the same words again: they make it, or say that the device is not blank, and then tmem show tells whether it is made; if it is not, fill those bytes with zeros and begin again";
 
 const NOT_BLANK: &str =
-    "it has bytes other than 0 where the store would be; if a store was there (which lsblk and mount do not show), put a copy in its place (what the copy lacks is lost); else look what it is (lsblk, mount), and name another, or fill it with zeros only if nothing on it is needed";
+    "it has bytes other than 0 where the store would be; if a store was there (which lsblk and mount do not show), copy these bytes to another file first, and then put a copy in their place (what the copy lacks is lost); else look what it is (lsblk, mount), and name another, or fill it with zeros only if nothing on it is needed";
 
 /// Tells more of why a run ended before its last line, and of each entry that was refused.
 pub(crate) fn explain<E: Write>(
@@ -235,13 +235,17 @@ fn explain_store_failure<E: Write>(
         StoreFailure::NotMade(InitError::StoreIsThere | InitError::NotBlank)
             if is_store(rt, asked) => { tell_store(rt, asked, err) }
         StoreFailure::NotMade(InitError::StoreIsThere | InitError::NotBlank)
-            if is_damaged(rt, asked) => { tell_refused(rt, asked, &notes, Fault::Damaged, err) }
+            if is_damaged(rt, asked) => {
+            tell_refused(rt, asked, &notes, Fault::Damaged, err)?;
+            tell_block(rt, asked, err)
+        }
         StoreFailure::NotMade(InitError::StoreIsThere) => tell_no_store(rt, asked, err),
         StoreFailure::NotMade(InitError::NotBlank) => tell_of(err, asked, NOT_BLANK),
         StoreFailure::NotMade(InitError::TextUnread(_)) => tell_of(err, asked, TEXT_UNREAD),
         StoreFailure::NotMade(InitError::TextIsThere) => tell_of(err, asked, OTHER_TEXT),
         StoreFailure::NotServed(ServeError::Unregistered(_)) => {
-            tell_of(err, asked, NOT_REGISTERED)
+            tell_of(err, asked, NOT_REGISTERED)?;
+            tell_block(rt, asked, err)
         }
         StoreFailure::Input => tell(err, NO_INPUT),
         StoreFailure::NotServed(ServeError::Ended(DeskFailure::Output)) => tell(err, NO_ANSWERS),
@@ -262,8 +266,21 @@ fn tell_device_too<E: Write>(
         | Fault::Broken(_)
         | Fault::Spent
         | Fault::Geometry
-            if is_store_device(rt, asked) => tell_of(err, asked, ON_A_DEVICE),
+            if !matches!(asked, Asked::Init(_)) => tell_block(rt, asked, err),
         _ => Ok(()),
+    }
+}
+
+// The same, whatever was wanted.
+fn tell_block<E: Write>(
+    rt: &(impl Files<File = File> + AllocGlobal),
+    asked: Asked,
+    err: &mut E,
+) -> io::Result<()> {
+    if is_block_device(rt, asked) && !has_no_bytes(rt, asked) {
+        tell_of(err, asked, ON_A_DEVICE)
+    } else {
+        Ok(())
     }
 }
 
@@ -438,14 +455,6 @@ fn is_block_device(rt: &(impl Files<File = File> + AllocGlobal), asked: Asked) -
     match fs::metadata(rt, path) {
         Ok(found) => found.file_type().is_block_device(),
         Err(_) => false,
-    }
-}
-
-// Whether that is to have a store already, and has bytes.
-fn is_store_device(rt: &(impl Files<File = File> + AllocGlobal), asked: Asked) -> bool {
-    match asked {
-        Asked::Init(_) => false,
-        _ => is_block_device(rt, asked) && !has_no_bytes(rt, asked),
     }
 }
 
