@@ -20,7 +20,7 @@ use Rattle.tmem_copies.specs.Numbering.{with_numbers}
 use Rattle.tmem_desk.specs.Keeping.{kept_under, with_kept}
 use Rattle.tmem_desk.specs.Serving.{Takes, MayWait, HasNoPlan, Runs, RunsCopy, kept_as, RefusesLine, RefusesLong, Round, TriesNext, TriesFirst, Wakes, Finishes, tells, tried, tried_again, by, one_line_more, waits, without, cancelled, closed, with_closed}
 use Rattle.tmem_desk.specs.Steps.{Repeats}
-use Rattle.tmem_desk.specs.Told.{answer_told, failed, refused}
+use Rattle.tmem_desk.specs.Told.{answer_told, refused, told_last}
 use Rattle.tmem_desk.specs.declared.told.Told.{Told}
 use Rattle.tmem_desk.specs.declared.told.Told.TheVariants as told
 
@@ -206,14 +206,14 @@ module _ (among : ℤ → Bool) (others : Bool) where
   pub closed_due : (v : DeskView) → count_by (answers_any_of among others) (with_closed v).told ≡ due_of among others v
   closed_due v = omega (arith, count_append (answers_any_of among others) v.told (closed v.waiting), closed_count v.waiting)
 
-  -- as many are told of a fault
-  failed_one : (f : Fault) (t : Told) → count_by (answers_any_of among others) (failed f t ∷ []) ≡ count_by (answers_any_of among others) (t ∷ [])
-  failed_one f (told.Answer a) = refl
-  failed_one f (told.NoRequest n) = refl
+  -- as many are told at last
+  last_one : (d : Option ℕ) (f : Fault) (t : Told) → count_by (answers_any_of among others) (told_last d f t ∷ []) ≡ count_by (answers_any_of among others) (t ∷ [])
+  last_one d f (told.Answer a) = refl
+  last_one d f (told.NoRequest n) = refl
 
-  pub failed_count : (f : Fault) (ts : List Told) → count_by (answers_any_of among others) (map (failed f) ts) ≡ count_by (answers_any_of among others) ts
-  failed_count f [] = refl
-  failed_count f (t ∷ ts) =
-      let all : count_by (answers_any_of among others) (map (failed f) (t ∷ ts)) ≡ count_by (answers_any_of among others) (failed f t ∷ []) + count_by (answers_any_of among others) (map (failed f) ts) =
-      count_append (answers_any_of among others) (failed f t ∷ []) (map (failed f) ts) in
-      omega (arith, failed_one f t, failed_count f ts, count_append (answers_any_of among others) (t ∷ []) ts)
+  pub last_count : (d : Option ℕ) (f : Fault) (ts : List Told) → count_by (answers_any_of among others) (map (told_last d f) ts) ≡ count_by (answers_any_of among others) ts
+  last_count d f [] = refl
+  last_count d f (t ∷ ts) =
+      let all : count_by (answers_any_of among others) (map (told_last d f) (t ∷ ts)) ≡ count_by (answers_any_of among others) (told_last d f t ∷ []) + count_by (answers_any_of among others) (map (told_last d f) ts) =
+      count_append (answers_any_of among others) (told_last d f t ∷ []) (map (told_last d f) ts) in
+      omega (arith, last_one d f t, last_count d f ts, count_append (answers_any_of among others) (t ∷ []) ts)

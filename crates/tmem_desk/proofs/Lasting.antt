@@ -1,8 +1,9 @@
 -- What is told tells of nothing but what the pass knows by then.
-use Rattle.std.proofs.Common.{◌≡◌, ◌≢◌, ◌⊎◌, ⊎_elim, ℕ, zero, suc, ℤ, ◌≤◌, max, Bool, true, false, cond, ◌||◌, nat_le, nat_lt, ◌-◌, ◌==◌, List, [], ◌∷◌, ◌++◌, length, Option, Some, None, Result, Ok, Err, IfOk, refl, ap, sym, subst, arith, length-append}
+use Rattle.std.proofs.Common.{◌≡◌, ◌≢◌, ◌⊎◌, ⊎_elim, ℕ, zero, suc, ℤ, ◌≤◌, max, Bool, true, false, cond, ◌||◌, nat_le, nat_lt, ◌-◌, ◌==◌, List, [], ◌∷◌, ◌++◌, length, map, Option, Some, None, Result, Ok, Err, IfOk, refl, ap, sym, subst, arith, length-append}
 use Rattle.std.specs.Prelude.{All, IfSome, MatchBool, is_some, if◌then◌else◌}
 use Rattle.std.proofs.Props.{props}
 use Rattle.std.proofs.Math.Logic.{∥∥₁_elim}
+use Rattle.std.proofs.lemmas.Bool.Decides.{nat_tests}
 use Rattle.std.proofs.lemmas.List.Elements.{All-nil, All-cons, All-append, All-weaker}
 use Rattle.tmem_fault.specs.declared.fault.Cause.{Cause}
 use Rattle.tmem_fault.specs.declared.fault.Fault.{Fault}
@@ -37,9 +38,11 @@ use Rattle.tmem_copies.specs.Numbering.{with_numbers}
 use Rattle.tmem_desk.specs.Keeping.{kept_under, with_kept}
 use Rattle.tmem_desk.specs.Serving.{Takes, TakesLine, TakesText, TakesShort, TakesLast, MayWait, HasNoPlan, IsAnsweredAtOnce, Runs, RunsCopy, kept_as, RefusesLine, RefusesLong, Round, TriesNext, TriesFirst, Wakes, Finishes, tells, tried, tried_again, by, one_line_more, waits, without, cancelled, closed, with_closed}
 use Rattle.tmem_desk.specs.Steps.{LabelledSteps, Repeats}
-use Rattle.tmem_desk.specs.Told.{answer_told, refused}
+use Rattle.tmem_desk.specs.Failing.{TellsBehind}
+use Rattle.tmem_desk.specs.Told.{TellsOnly, TellsWithin, answer_told, refused, rests_within, told_last}
 use Rattle.tmem_desk.specs.declared.told.Told.{Told}
 use Rattle.tmem_desk.specs.declared.told.Told.TheVariants as told
+use Rattle.tmem_desk.proofs.Ends.{only_within, within_last}
 
 -- how many transactions a pass knows to be committed or to be durable
 abbrev pub reached : Store → PassRoleView → ℕ
@@ -371,3 +374,26 @@ closed_among n (one ∷ all) = All-cons (TellsAmong n) (answer_told one.0 (answe
 -- so is what those are told that still wait at the end
 pub closed_told : (n : ℕ) (v : DeskView) → All (TellsAmong n) v.told → All (TellsAmong n) (with_closed v).told
 closed_told n v is = All-append (TellsAmong n) v.told (closed v.waiting) is (closed_among n v.waiting)
+
+-- ---- where serving ends early
+
+rests_among : (n : ℕ) (given : Answer) → rests_within n given ≡ true → IsAmong n given
+rests_among n (answer.Settled (Committed number registers)) is = grind (arith, nat_tests)
+rests_among n (answer.Settled (Seen at registers)) is = grind (arith, nat_tests)
+rests_among n (answer.Values number values) is = grind (arith, nat_tests)
+rests_among n (answer.State number names values) is = grind (arith, nat_tests)
+rests_among n (answer.Durable number) is = grind (arith, nat_tests)
+rests_among n given is = tt
+
+within_among : (n : ℕ) (f : Fault) (t : Told) → TellsWithin n f t → TellsAmong n t
+within_among n f (told.Answer a) = ⊎_elim (λ (same : a.answer ≡ answer.Fault f). subst (IsAmong n) (sym same) tt) (rests_among n a.answer)
+within_among n f (told.NoRequest refusal) = λ is. tt
+
+-- what is told then is durable
+pub stopped_told : (s : Store) (texts : List (List ℕ)) (mid w : DeskView) (f : Fault) (prints : List ℕ → Type 0) (t : TellsBehind s texts mid f w prints) → All (TellsAmong (count s.start w.pass.seen)) t.all
+stopped_told s texts mid w f prints t =
+    let n : ℕ = count s.start w.pass.seen in
+    let first : All (TellsWithin n f) (map (told_last (Some n) f) mid.told) = within_last (Some n) n f mid.told refl in
+    let later : All (TellsWithin n f) t.behind = All-weaker (TellsOnly f) (TellsWithin n f) (only_within n f) t.behind t.only in
+    All-weaker (TellsWithin n f) (TellsAmong n) (within_among n f) t.all
+    (subst (All (TellsWithin n f)) (sym t.told) (All-append (TellsWithin n f) (map (told_last (Some n) f) mid.told) t.behind first later))

@@ -9,6 +9,7 @@ mod Lists
 mod Losing
 mod Seen
 mod Settled
+mod Sight
 mod StepLaws
 mod Taking
 mod Telling

@@ -1,34 +1,37 @@
 -- No request is lost: lines that are taken, one after another, and what is told of them where the store cannot go on.
-use Rattle.std.proofs.Common.{◌≡◌, ◌≢◌, inl, inr, ⊎_elim, ℕ, ℤ, ◌+◌, Bool, true, false, nat_lt, List, [], ◌∷◌, ◌++◌, length, map, append_assoc, length-append, Result, Ok, Err, IfErr, refl, ap, sym, ◌∙◌, subst, arith}
+use Rattle.std.proofs.Common.{◌≡◌, ◌≢◌, ◌⊎◌, inl, inr, ⊎_elim, ℕ, zero, suc, ℤ, ◌+◌, Bool, true, false, nat_lt, List, [], ◌∷◌, ◌++◌, length, map, append_assoc, length-append, Option, Some, Result, Ok, Err, IfErr, refl, ap, sym, ◌∙◌, subst, arith}
 use Rattle.std.specs.Prelude.{All, MatchBool, count_by, flat_map}
 use Rattle.std.specs.Result.{IsErrAnd}
 use Rattle.std.proofs.lemmas.Bool.{false≢true}
 use Rattle.std.proofs.lemmas.Bool.Decides.{nat_tests}
-use Rattle.std.proofs.lemmas.List.{flat_map_more, map_push}
+use Rattle.std.proofs.lemmas.List.{append-nil, flat_map_more, map-append, map_push}
 use Rattle.std.proofs.lemmas.List.Concat.{flat_map-append}
-use Rattle.std.proofs.lemmas.List.Elements.{All-nil, All-append, All-push}
+use Rattle.std.proofs.lemmas.List.Elements.{All-nil, All-cons, All-append, All-push}
 use Rattle.tmem_fault.specs.declared.fault.Fault.{Fault}
 use Rattle.tmem_fault.specs.declared.fault.Fault.TheVariants.{Memory}
-use Rattle.tmem_lines.specs.Lines.{line, IsLine, IsUnbroken, HoldsRestOf, IsCutOff}
+use Rattle.tmem_fault.specs.declared.fault.Fault.TheVariants as fault
+use Rattle.tmem_lines.specs.Lines.{line, IsLine, IsLongLine, IsUnbroken, HoldsRestOf, IsCutOff}
 use Rattle.tmem_lines.specs.Views.{LinesView}
+use Rattle.tmem_front.specs.Settling.{SeesMore}
+use Rattle.tmem_spine.specs.History.{count}
 use Rattle.tmem_spine.specs.Views.{PassRoleView}
-use Rattle.tmem_requests.specs.declared.answer.Answer.{Answer}
 use Rattle.tmem_requests.specs.declared.answer.Answer.TheVariants as answer
 use Rattle.tmem_requests.specs.declared.request.RequestBody.{RequestBody}
 use Rattle.tmem_desk.specs.Asking.{Store}
 use Rattle.tmem_desk.specs.Desks.{DeskView}
 use Rattle.tmem_desk.specs.Due.{LineCounts, LinesCount, LosesNone, KeepsDue, answers_any_of, due_of, waits_of}
-use Rattle.tmem_desk.specs.Failing.{AnswersLine, AnswersOnly, IsLast, IsUnprinted, IsMemoryOrOutput, OrMemory, PassesAll, PassesLine, PrintsBeginning, PrintsPart, TakesPart, TakesRest, TellsAll, TellsEach, TellsWhy}
-use Rattle.tmem_desk.specs.Serving.{IsAskedOf, RefusesLine, RefusesLong, Splits, TakesAll, TakesLast, TakesLine, TakesText, TakesShort, Wakes, by, one_line_more, tells, with_closed}
-use Rattle.tmem_desk.specs.Steps.{LabelledSteps}
-use Rattle.tmem_desk.specs.Told.{TellsOnly, answer_told, failed, told_lines}
+use Rattle.tmem_desk.specs.Failing.{AnswersLine, AnswersOnly, GoesBehind, IsLast, IsUnprinted, IsMemoryOrOutput, LearnsOnly, OrMemory, PassesAll, PassesLine, PassesOver, PrintsBeginning, PrintsPart, Stops, StopsBehind, StopsWithin, TakesPart, TakesRest, TellsAll, TellsBehind, TellsEach, TellsWhy, TriesUntil}
+use Rattle.tmem_desk.specs.Serving.{IsAskedOf, RefusesLine, RefusesLong, Round, Splits, TakesAll, TakesLast, TakesLine, TakesText, TakesShort, TriesNext, Wakes, by, closed, one_line_more, tells, with_closed}
+use Rattle.tmem_desk.specs.Steps.{LabelledSteps, Repeats}
+use Rattle.tmem_desk.specs.Told.{TellsFault, TellsOnly, answer_told, refused, told_last, told_lines}
 use Rattle.tmem_desk.specs.declared.failure.DeskFailure.{DeskFailure}
 use Rattle.tmem_desk.specs.declared.failure.DeskFailure.TheVariants.{Output}
 use Rattle.tmem_desk.specs.declared.failure.DeskFailure.TheVariants as failure
 use Rattle.tmem_desk.specs.declared.told.Told.{Told}
-use Rattle.tmem_desk.proofs.Counted.{closed_due, failed_count, long_due, refused_due, taken_due, tells_one, waits_again, woken_due}
-use Rattle.tmem_desk.proofs.Ends.{tells_only}
-use Rattle.tmem_desk.proofs.Taking.{TakesSome, short_text}
+use Rattle.tmem_desk.proofs.Counted.{closed_due, last_count, long_due, refused_due, repeated_due, taken_due, tells_one, waits_again}
+use Rattle.tmem_desk.proofs.Ends.{faults_last}
+use Rattle.tmem_desk.proofs.Sight.{sees_as, sees_the_same, sees_then}
+use Rattle.tmem_desk.proofs.Taking.{TakesSome, long_text, short_text}
 
 -- ---- errors that are handed on
 
@@ -117,28 +120,25 @@ steps_lose s (text ∷ texts) v w steps among others n c =
 -- a request that is answered by a fault is not lost
 pub answer_loses : (s : Store) (text : List ℕ) (v w : DeskView) → IsLine text → AnswersLine s text v w → LosesNone s (text ∷ []) v w
 answer_loses s text v w short a among others n c =
-    let told : due_of among others w ≡ due_of among others (by (one_line_more v) w.pass) + _ = ap (due_of among others) a.only.is ∙ tells_one among others a.id a.only.given (by (one_line_more v) w.pass) in
+    let told : due_of among others w ≡ due_of among others (by (one_line_more v) w.pass) + _ = ap (due_of among others) a.only.is ∙ tells_one among others a.id (answer.Fault a.only.fault) (by (one_line_more v) w.pass) in
     let n_is = c.2.request a.id a.ask short a.asked in
     omega (arith, told, n_is, c.3, c.4)
-
-pub passed_loses : (s : Store) (text : List ℕ) (v w : DeskView) → IsLine text → PassesLine s text v w → LosesNone s (text ∷ []) v w
-passed_loses s text v w short (inl a) = answer_loses s text v w short a
-passed_loses s text v w short (inr r) = text_loses s text v w (short_text s text v w short (inr r))
 
 -- ---- a request that meets a fault
 
 -- it is answered so, where nothing but the pass was changed
-pub answers_only : (id id' : ℤ) (f : Fault) (v mid w : DeskView) (r : Result Unit Fault) → id' ≡ id → OrMemory f (mid ≡ by v mid.pass)
+pub answers_only : (id id' : ℤ) (f : Fault) (v mid w : DeskView) (r : Result Unit Fault) → id' ≡ id → OrMemory f (LearnsOnly v mid)
     → IfErr r (λ g. OrMemory g ((g ≡ f) × (w ≡ tells mid (answer_told id' (answer.Fault f) ∷ [])))) → IfErr r (λ g. OrMemory g (AnswersOnly id v w))
 answers_only id id' f v mid w (Ok x) same before told = tt
 answers_only id id' f v mid w (Err g) same before (inl is) = inl is
 answers_only id id' f v mid w (Err g) same (inl is) (inr told) = inl (told.0 ∙ is)
 answers_only id id' f v mid w (Err g) same (inr kept) (inr told) =
-    let is : w ≡ tells (by v mid.pass) (answer_told id' (answer.Fault f) ∷ []) = told.1 ∙ ap (λ (d : DeskView). tells d (answer_told id' (answer.Fault f) ∷ [])) kept in
+    let is : w ≡ tells (by v mid.pass) (answer_told id' (answer.Fault f) ∷ []) = told.1 ∙ ap (λ (d : DeskView). tells d (answer_told id' (answer.Fault f) ∷ [])) kept.is in
     let pass : mid.pass ≡ w.pass = sym (ap (λ (d : DeskView). d.pass) told.1) in
     inr (record {
-      given = answer.Fault f;
+      fault = f;
       is = subst (λ (i : ℤ). w ≡ tells (by v w.pass) (answer_told i (answer.Fault f) ∷ [])) same (subst (λ (p : PassRoleView). w ≡ tells (by v p) (answer_told id' (answer.Fault f) ∷ [])) pass is);
+      sees = subst (SeesMore v.pass) pass kept.sees;
     })
 
 -- the line is answered that it is
@@ -146,93 +146,230 @@ pub answers_line : (s : Store) (text : List ℕ) (id id' : ℤ) (asks : RequestB
 answers_line s text id id' asks v w same is only =
     record { id = id; ask = asks; asked = is; only = subst (λ (i : ℤ). AnswersOnly i (one_line_more v) w) same only }
 
+-- ---- how far it ran
+
 -- the first that waits waits on, behind the others
 pub waits_behind : {X : Type 0} (g : X → ℤ × RequestBody) (x : X) (xs items behind : List X) (v w : DeskView) (pass : PassRoleView) → v.waiting ≡ map g xs → xs ≡ x ∷ items
-    → behind ≡ items ++ x ∷ [] → w ≡ record v { pass = pass; waiting = map g behind } → KeepsDue v w
-waits_behind g x xs items behind v w pass all popped pushed is among others =
-    let first : v.waiting ≡ g x ∷ map g items = all ∙ ap (map g) popped in
+    → behind ≡ items ++ x ∷ [] → w ≡ record v { pass = pass; waiting = map g behind } → SeesMore v.pass pass → GoesBehind v w
+waits_behind g x xs items behind v w pass all popped pushed is sees =
     let last : w ≡ record v { pass = pass; waiting = map g items ++ g x ∷ [] } = is ∙ ap (λ (ws : List (ℤ × RequestBody)). record v { pass = pass; waiting = ws }) (ap (map g) pushed ∙ map_push g items x) in
-    ap (due_of among others) last
-    ∙ (waits_again among others (g x).0 (g x).1 (map g items) (count_by (answers_any_of among others) v.told)
-    ∙ ap (λ (ws : List (ℤ × RequestBody)). count_by (waits_of among) ws + count_by (answers_any_of among others) v.told) (sym first))
+    let same : pass ≡ w.pass = sym (ap (λ (d : DeskView). d.pass) is) in
+    record {
+      first = g x;
+      others = map g items;
+      waiting = all ∙ ap (map g) popped;
+      is = subst (λ (p : PassRoleView). w ≡ record v { pass = p; waiting = map g items ++ g x ∷ [] }) same last;
+      sees = subst (SeesMore v.pass) same sees;
+    }
 
-pub finished_keeps_due : (s : Store) (v mid w : DeskView) → Wakes s v mid → w ≡ by mid w.pass → KeepsDue v w
-finished_keeps_due s v mid w wakes is among others = ap (due_of among others) is ∙ woken_due among others s v mid wakes
+-- as many turns as before, and more
+turns_then : (s : Store) (n m : ℕ) (v mid w : DeskView) → Repeats (TriesNext s) n v mid → Repeats (TriesNext s) m mid w → (k : ℕ) × Repeats (TriesNext s) k v w
+turns_then s zero m v mid w same later = (m, subst (λ (d : DeskView). Repeats (TriesNext s) m d w) same later)
+turns_then s (suc n) m v mid w steps later =
+    let rest = turns_then s n m steps.0 mid w steps.2 later in
+    (suc rest.0, (steps.0, steps.1, rest.1))
+
+pub rounds_turns : (s : Store) (n : ℕ) (v w : DeskView) → Repeats (Round s) n v w → (k : ℕ) × Repeats (TriesNext s) k v w
+rounds_turns s zero v w same = (zero, same)
+rounds_turns s (suc n) v w steps =
+    let rest = rounds_turns s n steps.0 w steps.2 in
+    turns_then s (length v.waiting) rest.0 v steps.0 w steps.1 rest.1
+
+-- turns, and then the store could not go on
+pub turns_until : (s : Store) (n : ℕ) (v mid w : DeskView) → Repeats (TriesNext s) n v mid → TriesUntil s mid w → TriesUntil s v w
+turns_until s n v mid w turns until =
+    let all = turns_then s n until.turns v mid until.met turns until.tries in
+    record { turns = all.0; met = until.met; tries = all.1; stops = until.stops }
+
+pub goes_until : (s : Store) (v w : DeskView) → GoesBehind v w → TriesUntil s v w
+goes_until s v w goes = record { turns = zero; met = v; tries = refl; stops = inr goes }
+
+pub woken_until : (s : Store) (v mid w : DeskView) → Wakes s v mid → w ≡ by mid w.pass → SeesMore mid.pass w.pass → TriesUntil s v w
+woken_until s v mid w wakes is sees =
+    let before = rounds_turns s wakes.rounds v wakes.met wakes.before in
+    let all = turns_then s before.0 (length wakes.met.waiting) v wakes.met mid before.1 wakes.last in
+    record { turns = all.0; met = mid; tries = all.1; stops = inl (record { is = is; sees = sees }) }
+
+-- none is lost on the way there
+
+goes_keep_due : (v w : DeskView) → GoesBehind v w → KeepsDue v w
+goes_keep_due v w goes among others =
+    ap (due_of among others) goes.is
+    ∙ (waits_again among others goes.first.0 goes.first.1 goes.others (count_by (answers_any_of among others) v.told)
+    ∙ ap (λ (ws : List (ℤ × RequestBody)). count_by (waits_of among) ws + count_by (answers_any_of among others) v.told) (sym goes.waiting))
+
+learns_keep_due : (v w : DeskView) → LearnsOnly v w → KeepsDue v w
+learns_keep_due v w learns among others = ap (due_of among others) learns.is
+
+until_keeps_due : (s : Store) (v w : DeskView) → TriesUntil s v w → KeepsDue v w
+until_keeps_due s v w until among others =
+    ⊎_elim (λ (learns : LearnsOnly until.met w). learns_keep_due until.met w learns among others) (λ (goes : GoesBehind until.met w). goes_keep_due until.met w goes among others) until.stops
+    ∙ repeated_due among others s until.turns v until.met until.tries
+
+behind_loses : (s : Store) (texts : List (List ℕ)) (v w : DeskView) → StopsBehind s texts v w → LosesNone s texts v w
+behind_loses s texts v w stops = loses_and_keeps s texts v stops.taken w (steps_lose s texts v stops.taken stops.takes) (until_keeps_due s stops.taken w stops.until)
+
+within_loses : (s : Store) (texts : List (List ℕ)) (v w : DeskView) → StopsWithin s texts v w → LosesNone s texts v w
+within_loses s texts v w stops =
+    subst (λ (ts : List (List ℕ)). LosesNone s ts v w) (sym stops.are)
+    (loses_then s stops.earlier (stops.last ∷ []) v stops.met w (steps_lose s stops.earlier v stops.met stops.takes) (answer_loses s stops.last stops.met w stops.short stops.answers))
+
+stops_lose : (s : Store) (texts : List (List ℕ)) (v w : DeskView) → Stops s texts v w → LosesNone s texts v w
+stops_lose s texts v w = ⊎_elim (within_loses s texts v w) (behind_loses s texts v w)
 
 -- ---- texts of which a part came
 
-pub some_part : (s : Store) (text : List ℕ) (held : LinesView) (v w : DeskView) → TakesSome s text held v w → TakesPart s text held v w
-some_part s text held v w so =
-    record { texts = so.texts; rest = so.rest; is = so.is; unbroken = so.unbroken; stands = so.stands; loses = steps_lose s so.texts v w so.takes }
-
-pub no_part : (s : Store) (text : List ℕ) (held : LinesView) (v : DeskView) → HoldsRestOf held text → TakesPart s text held v v
-no_part s text held v stands =
-    record { texts = []; rest = text; is = refl; unbroken = All-nil IsUnbroken; stands = stands; loses = loses_nothing s v v refl }
-
--- one line more
-pub part_more : (s : Store) (text bytes : List ℕ) (held held' : LinesView) (v mid w : DeskView) (so : TakesPart s text held v mid) → IsCutOff so.rest bytes held' → LosesNone s (bytes ∷ []) mid w → TakesPart s text held' v w
-part_more s text bytes held held' v mid w so cut loses = record {
+-- the request of a line met the fault
+pub part_answered : (s : Store) (text bytes : List ℕ) (held held' : LinesView) (v mid w : DeskView) (so : TakesSome s text held v mid) → IsCutOff so.rest bytes held' → IsLine bytes → AnswersLine s bytes mid w → TakesPart s text held' v w
+part_answered s text bytes held held' v mid w so cut short answers = record {
   texts = so.texts ++ bytes ∷ [];
   rest = cut.rest;
   is = so.is ∙ (ap (λ (r : List ℕ). flat_map line so.texts ++ r) cut.is ∙ (sym (append_assoc (flat_map line so.texts) (line bytes) cut.rest) ∙ ap (λ (r : List ℕ). r ++ cut.rest) (flat_map_more line [] so.texts bytes)));
   unbroken = All-push IsUnbroken so.texts bytes so.unbroken cut.unbroken;
   stands = cut.stands;
-  loses = loses_then s so.texts (bytes ∷ []) v mid w so.loses loses;
+  stops = inl (record { earlier = so.texts; last = bytes; are = refl; short = short; met = mid; takes = so.takes; answers = answers });
 }
 
--- all that have ended
-pub part_all : (s : Store) (text : List ℕ) (held held' : LinesView) (v w : DeskView) (so : TakesPart s text held v w) → IsUnbroken so.rest → HoldsRestOf held' so.rest → PassesAll s text held' v w
-part_all s text held held' v w so last stands = record {
-  texts = so.texts;
-  splits = record { rest = so.rest; is = so.is; unbroken = so.unbroken; last = last; stands = stands };
-  loses = so.loses;
-}
-
--- all were taken, and then it goes on
-pub all_part : (s : Store) (text : List ℕ) (held : LinesView) (v mid w : DeskView) → TakesAll s text held v mid → KeepsDue mid w → TakesPart s text held v w
-all_part s text held v mid w t keeps = record {
+-- all were taken, and then it went on
+pub all_part : (s : Store) (text : List ℕ) (held : LinesView) (v mid w : DeskView) → TakesAll s text held v mid → TriesUntil s mid w → TakesPart s text held v w
+all_part s text held v mid w t until = record {
   texts = t.texts;
   rest = t.splits.rest;
   is = t.splits.is;
   unbroken = t.splits.unbroken;
   stands = t.splits.stands;
-  loses = loses_and_keeps s t.texts v mid w (steps_lose s t.texts v mid t.takes) keeps;
+  stops = inr (record { taken = mid; takes = t.takes; until = until });
 }
 
 -- what is left at the end of the input
-pub rest_taken : (s : Store) (text : List ℕ) (v mid w : DeskView) → TakesLast s text v mid → KeepsDue mid w → TakesRest s text v w
-rest_taken s text v mid w (inl none) keeps =
-    record { texts = []; last = inl (none.0, refl); loses = loses_and_keeps s [] v mid w (loses_nothing s v mid none.1) keeps }
-rest_taken s text v mid w (inr t) keeps =
-    record { texts = text ∷ []; last = inr (t.0, refl); loses = loses_and_keeps s (text ∷ []) v mid w (text_loses s text v mid t.1) keeps }
+pub rest_taken : (s : Store) (text : List ℕ) (v mid w : DeskView) → TakesLast s text v mid → TriesUntil s mid w → TakesRest s text v w
+rest_taken s text v mid w (inl none) until =
+    record { texts = []; last = inl (none.0, refl); stops = inr (record { taken = mid; takes = none.1; until = until }) }
+rest_taken s text v mid w (inr t) until =
+    record { texts = text ∷ []; last = inr (t.0, refl); stops = inr (record { taken = mid; takes = (mid, t.1, refl); until = until }) }
 
 pub rest_answered : (s : Store) (text bytes : List ℕ) (v w : DeskView) → text ≡ bytes → IsLine text → text ≢ [] → AnswersLine s bytes v w → TakesRest s text v w
-rest_answered s text bytes v w same short some a =
-    record { texts = text ∷ []; last = inr (some, refl); loses = answer_loses s text v w short (subst (λ (t : List ℕ). AnswersLine s t v w) (sym same) a) }
+rest_answered s text bytes v w same short some a = record {
+  texts = text ∷ [];
+  last = inr (some, refl);
+  stops = inl (record { earlier = []; last = text; are = refl; short = short; met = v; takes = refl; answers = subst (λ (t : List ℕ). AnswersLine s t v w) (sym same) a });
+}
+
+-- ---- lines that are passed over
+
+-- so far they were, and what is held is the rest
+pub record PassesSome (s : Store) (text : List ℕ) (held : LinesView) (v w : DeskView) : Type 0 where
+  pub texts : List (List ℕ)
+  pub rest : List ℕ
+  pub is : text ≡ flat_map line texts ++ rest
+  pub unbroken : All IsUnbroken texts
+  pub stands : HoldsRestOf held rest
+  pub passes : PassesOver s texts v w
+
+pub passes_none : (s : Store) (text : List ℕ) (held : LinesView) (v : DeskView) → HoldsRestOf held text → PassesSome s text held v v
+passes_none s text held v stands = record {
+  texts = [];
+  rest = text;
+  is = refl;
+  unbroken = All-nil IsUnbroken;
+  stands = stands;
+  passes = record { behind = []; told = sym (append-nil v.told); only = All-nil TellsFault; sees = sees_the_same v.pass; loses = loses_nothing s v v refl };
+}
+
+passes_then : (s : Store) (xs ys : List (List ℕ)) (v mid w : DeskView) → PassesOver s xs v mid → PassesOver s ys mid w → PassesOver s (xs ++ ys) v w
+passes_then s xs ys v mid w one two = record {
+  behind = one.behind ++ two.behind;
+  told = two.told ∙ (ap (λ (l : List Told). l ++ two.behind) one.told ∙ append_assoc v.told one.behind two.behind);
+  only = All-append TellsFault one.behind two.behind one.only two.only;
+  sees = sees_then v.pass mid.pass w.pass one.sees two.sees;
+  loses = loses_then s xs ys v mid w one.loses two.loses;
+}
+
+-- one line more
+pub passes_more : (s : Store) (text bytes : List ℕ) (held held' : LinesView) (v mid w : DeskView) (so : PassesSome s text held v mid) → IsCutOff so.rest bytes held' → PassesOver s (bytes ∷ []) mid w → PassesSome s text held' v w
+passes_more s text bytes held held' v mid w so cut passes = record {
+  texts = so.texts ++ bytes ∷ [];
+  rest = cut.rest;
+  is = so.is ∙ (ap (λ (r : List ℕ). flat_map line so.texts ++ r) cut.is ∙ (sym (append_assoc (flat_map line so.texts) (line bytes) cut.rest) ∙ ap (λ (r : List ℕ). r ++ cut.rest) (flat_map_more line [] so.texts bytes)));
+  unbroken = All-push IsUnbroken so.texts bytes so.unbroken cut.unbroken;
+  stands = cut.stands;
+  passes = passes_then s so.texts (bytes ∷ []) v mid w so.passes passes;
+}
+
+-- all that have ended
+pub passes_all : (s : Store) (text : List ℕ) (held held' : LinesView) (v w : DeskView) (so : PassesSome s text held v w) → IsUnbroken so.rest → HoldsRestOf held' so.rest → PassesAll s text held' v w
+passes_all s text held held' v w so last stands = record {
+  texts = so.texts;
+  splits = record { rest = so.rest; is = so.is; unbroken = so.unbroken; last = last; stands = stands };
+  passes = so.passes;
+}
+
+-- a line that is passed over
+answer_passes : (s : Store) (text : List ℕ) (v w : DeskView) → IsLine text → AnswersLine s text v w → PassesOver s (text ∷ []) v w
+answer_passes s text v w short a = record {
+  behind = answer_told a.id (answer.Fault a.only.fault) ∷ [];
+  told = ap (λ (d : DeskView). d.told) a.only.is;
+  only = All-cons TellsFault (answer_told a.id (answer.Fault a.only.fault)) [] (a.only.fault, refl) (All-nil TellsFault);
+  sees = a.only.sees;
+  loses = answer_loses s text v w short a;
+}
+
+refusal_passes : (s : Store) (text : List ℕ) (v w : DeskView) (one : Told) → TellsFault one → w ≡ tells (one_line_more v) (one ∷ []) → LosesNone s (text ∷ []) v w → PassesOver s (text ∷ []) v w
+refusal_passes s text v w one fault is loses = record {
+  behind = one ∷ [];
+  told = ap (λ (d : DeskView). d.told) is;
+  only = All-cons TellsFault one [] fault (All-nil TellsFault);
+  sees = sees_as v.pass w.pass (ap (λ (d : DeskView). d.pass) is);
+  loses = loses;
+}
+
+pub line_passes : (s : Store) (text : List ℕ) (v w : DeskView) → IsLine text → PassesLine s text v w → PassesOver s (text ∷ []) v w
+line_passes s text v w short (inl a) = answer_passes s text v w short a
+line_passes s text v w short (inr r) =
+    refusal_passes s text v w (refused (one_line_more v).lines r.refusal) tt r.is (text_loses s text v w (short_text s text v w short (inr r)))
+
+pub long_passes : (s : Store) (text : List ℕ) (v w : DeskView) → IsLongLine text → RefusesLong v w → PassesOver s (text ∷ []) v w
+long_passes s text v w long r = refusal_passes s text v w (refused (one_line_more v).lines r.refusal) tt r.is (text_loses s text v w (long_text s text v w long r))
 
 -- ---- what is told in the end
 
-pub tells_each : (s : Store) (texts : List (List ℕ)) (v over shut : DeskView) (f : Fault) (all given : List Told) (prints : List ℕ → Type 0) → LosesNone s texts v over → shut ≡ with_closed over → all ≡ shut.told
-    → given ≡ map (failed f) all → prints (told_lines given) → TellsEach s texts v f prints
-tells_each s texts v over shut f all given prints loses closed told is printed = record {
-  all = given;
-  only = subst (λ (l : List Told). All (TellsOnly f) l) (sym is) (tells_only f all);
-  each = λ among others n c.
-      ap (count_by (answers_any_of among others)) is
-      ∙ (failed_count among others f all
-      ∙ (ap (count_by (answers_any_of among others)) (told ∙ ap (λ (d : DeskView). d.told) closed)
-      ∙ (closed_due among others over ∙ loses among others n c)));
-  printed = printed;
-}
+closed_faults : (all : List (ℤ × RequestBody)) → All TellsFault (closed all)
+closed_faults [] = All-nil TellsFault
+closed_faults (one ∷ all) = All-cons TellsFault (answer_told one.0 (answer.Fault fault.Closed)) (closed all) (fault.Closed, refl) (closed_faults all)
 
-each_then : (s : Store) (xs ys : List (List ℕ)) (v mid : DeskView) (f : Fault) (prints : List ℕ → Type 0) → LosesNone s xs v mid → TellsEach s ys mid f prints → TellsEach s (xs ++ ys) v f prints
-each_then s xs ys v mid f prints loses t = record {
-  all = t.all;
-  only = t.only;
+pub tells_behind : (s : Store) (texts : List (List ℕ)) (mid over shut w : DeskView) (f : Fault) (d : Option ℕ) (all given : List Told) (prints : List ℕ → Type 0) → PassesOver s texts mid over → shut ≡ with_closed over
+    → all ≡ shut.told → SeesMore shut.pass w.pass → given ≡ map (told_last d f) all → prints (told_lines given) → d ≡ Some (count s.start w.pass.seen) → TellsBehind s texts mid f w prints
+tells_behind s texts mid over shut w f d all given prints passes closes told sees is printed durable =
+    let last : Told → Told = told_last d f in
+    let more : List Told = passes.behind ++ closed over.waiting in
+    let whole : all ≡ mid.told ++ more =
+    told ∙ (ap (λ (v : DeskView). v.told) closes ∙ (ap (λ (l : List Told). l ++ closed over.waiting) passes.told ∙ append_assoc mid.told passes.behind (closed over.waiting))) in
+    let parts : given ≡ map last mid.told ++ map last more = is ∙ (ap (map last) whole ∙ map-append last mid.told more) in
+    record {
+      all = given;
+      behind = map last more;
+      told = subst (λ (o : Option ℕ). given ≡ map (told_last o f) mid.told ++ map last more) durable parts;
+      only = faults_last d f more (All-append TellsFault passes.behind (closed over.waiting) passes.only (closed_faults over.waiting));
+      sees = sees_then mid.pass over.pass w.pass passes.sees (subst (λ (p : PassRoleView). SeesMore p w.pass) (ap (λ (v : DeskView). v.pass) closes) sees);
+      each = λ among others n c.
+          ap (count_by (answers_any_of among others)) is
+          ∙ (last_count among others d f all
+          ∙ (ap (count_by (answers_any_of among others)) (told ∙ ap (λ (v : DeskView). v.told) closes)
+          ∙ (closed_due among others over ∙ passes.loses among others n c)));
+      printed = printed;
+    }
+
+each_then : (s : Store) (xs ys : List (List ℕ)) (v mid w : DeskView) (f : Fault) (prints : List ℕ → Type 0) → Stops s xs v mid → TellsBehind s ys mid f w prints → TellsEach s (xs ++ ys) v f w prints
+each_then s xs ys v mid w f prints stops t = record {
+  began = xs;
+  later = ys;
+  are = refl;
+  mid = mid;
+  stops = stops;
+  tells = t;
   each = λ among others n c.
       let parts = counts_split s among others xs ys n c in
-      omega (arith, t.each among others parts.1 parts.3, loses among others parts.0 parts.2, parts.4);
-  printed = t.printed;
+      omega (arith, t.each among others parts.1 parts.3, stops_lose s xs v mid stops among others parts.0 parts.2, parts.4);
 }
 
 split_then : (s : Store) (text : List ℕ) (held held' : LinesView) (v mid : DeskView) (so : TakesPart s text held v mid) (ys : List (List ℕ)) → Splits so.rest ys held' → Splits text (so.texts ++ ys) held'
@@ -245,17 +382,18 @@ split_then s text held held' v mid so ys sp = record {
 }
 
 -- where a part of a text came before
-pub part_then : (s : Store) (text : List ℕ) (held held' : LinesView) (Ran : DeskView → Type 0) (v mid : DeskView) (prints : List ℕ → Type 0) (e : DeskFailure) (so : TakesPart s text held v mid)
-    → TellsWhy s (λ (ys : List (List ℕ)). Splits so.rest ys held') mid prints e → TellsAll s (λ (xs : List (List ℕ)). Splits text xs held') Ran v prints e
-part_then s text held held' Ran v mid prints Output so why = inr (inl (record {
+pub part_then : (s : Store) (text : List ℕ) (held held' : LinesView) (Ran : DeskView → Type 0) (v mid w : DeskView) (prints : List ℕ → Type 0) (e : DeskFailure) (so : TakesPart s text held v mid)
+    → TellsWhy s (λ (ys : List (List ℕ)). Splits so.rest ys held') mid w prints e → TellsAll s (λ (xs : List (List ℕ)). Splits text xs held') Ran v w prints e
+part_then s text held held' Ran v mid w prints Output so (inr want) = inr (inr want)
+part_then s text held held' Ran v mid w prints Output so (inl why) = inr (inl (record {
   fault = why.fault;
   texts = so.texts ++ why.texts;
   lines = split_then s text held held' v mid so why.texts why.lines;
-  tells = each_then s so.texts why.texts v mid why.fault (PrintsBeginning prints) so.loses why.tells;
+  tells = each_then s so.texts why.texts v mid w why.fault (PrintsBeginning prints) so.stops why.tells;
 }))
-part_then s text held held' Ran v mid prints (failure.Fault f) so (inl is) = inl is
-part_then s text held held' Ran v mid prints (failure.Fault f) so (inr t) =
-    inr (so.texts ++ t.0, split_then s text held held' v mid so t.0 t.1, each_then s so.texts t.0 v mid f prints so.loses t.2)
+part_then s text held held' Ran v mid w prints (failure.Fault f) so (inl is) = inl is
+part_then s text held held' Ran v mid w prints (failure.Fault f) so (inr t) =
+    inr (so.texts ++ t.0, split_then s text held held' v mid so t.0 t.1, each_then s so.texts t.0 v mid w f prints so.stops t.2)
 
 -- nothing is left that has no line
 none_split : (ys : List (List ℕ)) (rest : List ℕ) → [] ≡ flat_map line ys ++ rest → ys ≡ []
@@ -268,84 +406,87 @@ none_split (y ∷ ys) rest is =
     absurd (omega (arith, long, head, last, none))
 
 -- nothing came behind the rest
-rest_each : (s : Store) (text : List ℕ) (held : LinesView) (v mid : DeskView) (f : Fault) (prints : List ℕ → Type 0) (so : TakesRest s text v mid) (ys : List (List ℕ)) → Splits [] ys held
-    → TellsEach s ys mid f prints → TellsEach s so.texts v f prints
-rest_each s text held v mid f prints so ys splits t =
-    let each : TellsEach s [] mid f prints = subst (λ (ys : List (List ℕ)). TellsEach s ys mid f prints) (none_split ys splits.rest splits.is) t in
-    record {
-      all = each.all;
-      only = each.only;
-      each = λ among others n c. omega (arith, each.each among others 0 refl, so.loses among others n c);
-      printed = each.printed;
-    }
+rest_each : (s : Store) (text : List ℕ) (held : LinesView) (v mid w : DeskView) (f : Fault) (prints : List ℕ → Type 0) (so : TakesRest s text v mid) (ys : List (List ℕ)) → Splits [] ys held
+    → TellsBehind s ys mid f w prints → TellsEach s so.texts v f w prints
+rest_each s text held v mid w f prints so ys splits t =
+    let none : TellsBehind s [] mid f w prints = subst (λ (ys : List (List ℕ)). TellsBehind s ys mid f w prints) (none_split ys splits.rest splits.is) t in
+    subst (λ (xs : List (List ℕ)). TellsEach s xs v f w prints) (append-nil so.texts) (each_then s so.texts [] v mid w f prints so.stops none)
 
 -- where the rest came before
-pub rest_then : (s : Store) (text : List ℕ) (held : LinesView) (Ran : DeskView → Type 0) (v mid : DeskView) (prints : List ℕ → Type 0) (e : DeskFailure) → TakesRest s text v mid
-    → TellsWhy s (λ (ys : List (List ℕ)). Splits [] ys held) mid prints e → TellsAll s (IsLast text) Ran v prints e
-rest_then s text held Ran v mid prints Output so why = inr (inl (record {
+pub rest_then : (s : Store) (text : List ℕ) (held : LinesView) (Ran : DeskView → Type 0) (v mid w : DeskView) (prints : List ℕ → Type 0) (e : DeskFailure) → TakesRest s text v mid
+    → TellsWhy s (λ (ys : List (List ℕ)). Splits [] ys held) mid w prints e → TellsAll s (IsLast text) Ran v w prints e
+rest_then s text held Ran v mid w prints Output so (inr want) = inr (inr want)
+rest_then s text held Ran v mid w prints Output so (inl why) = inr (inl (record {
   fault = why.fault;
   texts = so.texts;
   lines = so.last;
-  tells = rest_each s text held v mid why.fault (PrintsBeginning prints) so why.texts why.lines why.tells;
+  tells = rest_each s text held v mid w why.fault (PrintsBeginning prints) so why.texts why.lines why.tells;
 }))
-rest_then s text held Ran v mid prints (failure.Fault f) so (inl is) = inl is
-rest_then s text held Ran v mid prints (failure.Fault f) so (inr t) = inr (so.texts, so.last, rest_each s text held v mid f prints so t.0 t.1 t.2)
+rest_then s text held Ran v mid w prints (failure.Fault f) so (inl is) = inl is
+rest_then s text held Ran v mid w prints (failure.Fault f) so (inr t) = inr (so.texts, so.last, rest_each s text held v mid w f prints so t.0 t.1 t.2)
 
 -- all ran, and what is told could not be printed
-unprinted_all : (s : Store) (Are : List (List ℕ) → Type 0) (Ran : DeskView → Type 0) (v ran : DeskView) (prints : List ℕ → Type 0) (e : DeskFailure) → Ran ran → IsUnprinted prints ran.told e → TellsAll s Are Ran v prints e
-unprinted_all s Are Ran v ran prints Output runs is = inl (ran, runs, is)
-unprinted_all s Are Ran v ran prints (failure.Fault f) runs is = inl is
+unprinted_all : (s : Store) (Are : List (List ℕ) → Type 0) (Ran : DeskView → Type 0) (v ran w : DeskView) (prints : List ℕ → Type 0) (e : DeskFailure) → Ran ran → IsUnprinted prints ran.told e → TellsAll s Are Ran v w prints e
+unprinted_all s Are Ran v ran w prints Output runs is = inl (ran, runs, is)
+unprinted_all s Are Ran v ran w prints (failure.Fault f) runs is = inl is
 
 -- why the store cannot go on could not be printed
-pub unprinted_why : (s : Store) (Are : List (List ℕ) → Type 0) (v : DeskView) (prints : List ℕ → Type 0) (texts : List (List ℕ)) (fault : Fault) (all : List Told) (e : DeskFailure) → Are texts
-    → (PrintsPart prints all → TellsEach s texts v fault (PrintsBeginning prints)) → IsUnprinted prints all e → TellsWhy s Are v prints e
-unprinted_why s Are v prints texts fault all Output are each is = record { fault = fault; texts = texts; lines = are; tells = each is }
-unprinted_why s Are v prints texts fault all (failure.Fault f) are each is = inl is
+pub unprinted_why : (s : Store) (Are : List (List ℕ) → Type 0) (mid w : DeskView) (prints : List ℕ → Type 0) (texts : List (List ℕ)) (fault : Fault) (all : List Told) (e : DeskFailure) → Are texts
+    → (PrintsPart prints all → (fault ≡ Memory) ⊎ TellsBehind s texts mid fault w (PrintsBeginning prints)) → (fault ≡ Memory → All (TellsOnly fault) all) → IsUnprinted prints all e → TellsWhy s Are mid w prints e
+unprinted_why s Are mid w prints texts fault all Output are each only is = ⊎_elim
+    (λ (m : fault ≡ Memory). inr (all, subst (λ (f : Fault). All (TellsOnly f) all) m (only m), is))
+    (λ (t : TellsBehind s texts mid fault w (PrintsBeginning prints)). inl (record { fault = fault; texts = texts; lines = are; tells = t }))
+    (each is)
+unprinted_why s Are mid w prints texts fault all (failure.Fault f) are each only is = inl is
 
 -- that memory did not suffice could not be printed
 pub unprinted_want : (fault : Fault) (all : List Told) (prints : List ℕ → Type 0) (e : DeskFailure) → fault ≡ Memory → All (TellsOnly fault) all → IsUnprinted prints all e → IsMemoryOrOutput prints e
 unprinted_want fault all prints Output wanting only is = (all, subst (λ (f : Fault). All (TellsOnly f) all) wanting only, is)
 unprinted_want fault all prints (failure.Fault f) wanting only is = is
 
-pub wanting_all : (s : Store) (Are : List (List ℕ) → Type 0) (Ran : DeskView → Type 0) (v : DeskView) (prints : List ℕ → Type 0) (e : DeskFailure) → IsMemoryOrOutput prints e → TellsAll s Are Ran v prints e
-wanting_all s Are Ran v prints Output is = inr (inr is)
-wanting_all s Are Ran v prints (failure.Fault f) is = inl is
+pub wanting_all : (s : Store) (Are : List (List ℕ) → Type 0) (Ran : DeskView → Type 0) (v w : DeskView) (prints : List ℕ → Type 0) (e : DeskFailure) → IsMemoryOrOutput prints e → TellsAll s Are Ran v w prints e
+wanting_all s Are Ran v w prints Output is = inr (inr is)
+wanting_all s Are Ran v w prints (failure.Fault f) is = inl is
 
 -- a line that came behind the fault
-pub passed_over : (s : Store) (text : List ℕ) (id id' : ℤ) (asks : RequestBody) (given : Answer) (v w : DeskView) → id' ≡ id → IsAskedOf s id asks text → w ≡ tells (one_line_more v) (answer_told id' given ∷ []) → AnswersLine s text v w
-passed_over s text id id' asks given v w same asked is =
-    let told : w ≡ tells (by (one_line_more v) v.pass) (answer_told id' given ∷ []) = is in
+pub passed_over : (s : Store) (text : List ℕ) (id id' : ℤ) (asks : RequestBody) (f : Fault) (v w : DeskView) → id' ≡ id → IsAskedOf s id asks text → w ≡ tells (one_line_more v) (answer_told id' (answer.Fault f) ∷ []) → AnswersLine s text v w
+passed_over s text id id' asks f v w same asked is =
+    let told : w ≡ tells (by (one_line_more v) v.pass) (answer_told id' (answer.Fault f) ∷ []) = is in
     let pass : v.pass ≡ w.pass = sym (ap (λ (d : DeskView). d.pass) is) in
-    answers_line s text id id' asks v w same asked (record { given = given; is = subst (λ (p : PassRoleView). w ≡ tells (by (one_line_more v) p) (answer_told id' given ∷ [])) pass told })
+    answers_line s text id id' asks v w same asked (record {
+      fault = f;
+      is = subst (λ (p : PassRoleView). w ≡ tells (by (one_line_more v) p) (answer_told id' (answer.Fault f) ∷ [])) pass told;
+      sees = sees_as v.pass w.pass (sym pass);
+    })
 
-pub unprinted_texts : {X : Type 0} (Is : List ℕ → Type 0) (s : Store) (Are : List ℕ → List (List ℕ) → Type 0) (Ran : List ℕ → DeskView → Type 0) (v ran : DeskView) (prints : List ℕ → Type 0) (r : Result X DeskFailure)
+pub unprinted_texts : {X : Type 0} (Is : List ℕ → Type 0) (s : Store) (Are : List ℕ → List (List ℕ) → Type 0) (Ran : List ℕ → DeskView → Type 0) (v ran w : DeskView) (prints : List ℕ → Type 0) (r : Result X DeskFailure)
     → ((text : List ℕ) → Is text → Ran text ran) → IfErr r (IsUnprinted prints ran.told)
-    → IfErr r (λ e. (text : List ℕ) → Is text → TellsAll s (Are text) (Ran text) v prints e)
-unprinted_texts Is s Are Ran v ran prints (Ok x) runs is = tt
-unprinted_texts Is s Are Ran v ran prints (Err e) runs is = λ text so. unprinted_all s (Are text) (Ran text) v ran prints e (runs text so) is
+    → IfErr r (λ e. (text : List ℕ) → Is text → TellsAll s (Are text) (Ran text) v w prints e)
+unprinted_texts Is s Are Ran v ran w prints (Ok x) runs is = tt
+unprinted_texts Is s Are Ran v ran w prints (Err e) runs is = λ text so. unprinted_all s (Are text) (Ran text) v ran w prints e (runs text so) is
 
 -- a piece whose lines met a fault
-pub piece_fails : {X : Type 0} {Is : List ℕ → Type 0} (r : Result X DeskFailure) (s : Store) (piece : List ℕ) (held held' : LinesView) (Ran : List ℕ → DeskView → Type 0) (v mid : DeskView) (prints : List ℕ → Type 0) (f : Fault)
+pub piece_fails : {X : Type 0} {Is : List ℕ → Type 0} (r : Result X DeskFailure) (s : Store) (piece : List ℕ) (held held' : LinesView) (Ran : List ℕ → DeskView → Type 0) (v mid w : DeskView) (prints : List ℕ → Type 0) (f : Fault)
     → ((text : List ℕ) → Is text → OrMemory f (TakesPart s (text ++ piece) held v mid)) → (f ≡ Memory → IfErr r (IsMemoryOrOutput prints))
-    → IfErr r (λ e. (text : List ℕ) → HoldsRestOf held text → TellsWhy s (λ (ys : List (List ℕ)). Splits text ys held') mid prints e)
-    → IfErr r (λ e. (text : List ℕ) → Is text → TellsAll s (λ (xs : List (List ℕ)). Splits (text ++ piece) xs held') (Ran text) v prints e)
-piece_fails (Ok x) s piece held held' Ran v mid prints f before wanting told = tt
-piece_fails (Err e) s piece held held' Ran v mid prints f before wanting told =
+    → IfErr r (λ e. (text : List ℕ) → HoldsRestOf held text → TellsWhy s (λ (ys : List (List ℕ)). Splits text ys held') mid w prints e)
+    → IfErr r (λ e. (text : List ℕ) → Is text → TellsAll s (λ (xs : List (List ℕ)). Splits (text ++ piece) xs held') (Ran text) v w prints e)
+piece_fails (Ok x) s piece held held' Ran v mid w prints f before wanting told = tt
+piece_fails (Err e) s piece held held' Ran v mid w prints f before wanting told =
     λ text is.
     ⊎_elim
-    (λ (m : f ≡ Memory). wanting_all s (λ (xs : List (List ℕ)). Splits (text ++ piece) xs held') (Ran text) v prints e (wanting m))
-    (λ (so : TakesPart s (text ++ piece) held v mid). part_then s (text ++ piece) held held' (Ran text) v mid prints e so (told so.rest so.stands))
+    (λ (m : f ≡ Memory). wanting_all s (λ (xs : List (List ℕ)). Splits (text ++ piece) xs held') (Ran text) v w prints e (wanting m))
+    (λ (so : TakesPart s (text ++ piece) held v mid). part_then s (text ++ piece) held held' (Ran text) v mid w prints e so (told so.rest so.stands))
     (before text is)
 
 -- the end, where that met one
-pub end_fails : {X : Type 0} {Is : List ℕ → Type 0} (r : Result X DeskFailure) (s : Store) (held held' : LinesView) (Ran : List ℕ → DeskView → Type 0) (v mid : DeskView) (prints : List ℕ → Type 0) (f : Fault)
+pub end_fails : {X : Type 0} {Is : List ℕ → Type 0} (r : Result X DeskFailure) (s : Store) (held held' : LinesView) (Ran : List ℕ → DeskView → Type 0) (v mid w : DeskView) (prints : List ℕ → Type 0) (f : Fault)
     → ((text : List ℕ) → Is text → OrMemory f (TakesRest s text v mid)) → HoldsRestOf held [] → (f ≡ Memory → IfErr r (IsMemoryOrOutput prints))
-    → IfErr r (λ e. (text : List ℕ) → HoldsRestOf held text → TellsWhy s (λ (ys : List (List ℕ)). Splits text ys held') mid prints e)
-    → IfErr r (λ e. (text : List ℕ) → Is text → TellsAll s (IsLast text) (Ran text) v prints e)
-end_fails (Ok x) s held held' Ran v mid prints f before none wanting told = tt
-end_fails (Err e) s held held' Ran v mid prints f before none wanting told =
+    → IfErr r (λ e. (text : List ℕ) → HoldsRestOf held text → TellsWhy s (λ (ys : List (List ℕ)). Splits text ys held') mid w prints e)
+    → IfErr r (λ e. (text : List ℕ) → Is text → TellsAll s (IsLast text) (Ran text) v w prints e)
+end_fails (Ok x) s held held' Ran v mid w prints f before none wanting told = tt
+end_fails (Err e) s held held' Ran v mid w prints f before none wanting told =
     λ text is.
     ⊎_elim
-    (λ (m : f ≡ Memory). wanting_all s (IsLast text) (Ran text) v prints e (wanting m))
-    (λ (so : TakesRest s text v mid). rest_then s text held' (Ran text) v mid prints e so (told [] none))
+    (λ (m : f ≡ Memory). wanting_all s (IsLast text) (Ran text) v w prints e (wanting m))
+    (λ (so : TakesRest s text v mid). rest_then s text held' (Ran text) v mid w prints e so (told [] none))
     (before text is)

@@ -4,9 +4,9 @@ ghost use Rattle.std.specs.Ordering.{int_eq};
 ghost use Rattle.tmem_requests.specs.Fits.{FitsStore};
 ghost use Rattle.tmem_requests.specs.declared.request.RequestBody.TheVariants.{Do};
 ghost use Rattle.tmem_desk.specs.Asking.{store};
-ghost use Rattle.tmem_desk.specs.Failing.{AnswersLine, AnswersOnly, OrMemory, PassesLine};
+ghost use Rattle.tmem_desk.specs.Failing.{AnswersLine, AnswersOnly, LearnsOnly, OrMemory, PassesLine};
 ghost use Rattle.tmem_desk.specs.Held.{asked, desk_view, empty_desk};
-ghost use Rattle.tmem_desk.specs.Serving.{Takes, MayWait, TakesShort, RefusesLong, by, tells, tried, cancelled};
+ghost use Rattle.tmem_desk.specs.Serving.{Takes, MayWait, TakesShort, RefusesLong, tells, tried, cancelled};
 ghost use Rattle.tmem_desk.specs.Told.{answer_told, refused};
 
 use crate::counts::AnswerCounts;
@@ -184,7 +184,7 @@ impl<N: ServedNaming> Desk<N> {
     ) -> Result<(), Fault>
         requires { FitsStore (length N.opening.values) N.program.names N.always ask }
         ensures ok { OnOk result (Takes (store N.name.start N.opening N.program N.arities N.always) id ask (desk_view self.old) (desk_view self.new)) }
-        ensures err { IfErr result (λ f. OrMemory f (desk_view self.new ≡ by (desk_view self.old) self.new.pass)) }
+        ensures err { IfErr result (λ f. OrMemory f (LearnsOnly (desk_view self.old) (desk_view self.new))) }
     {
         match ask {
             RequestBody::Do(tx) => self.take_do(service, id, tx),
@@ -232,7 +232,7 @@ impl<N: ServedNaming> Desk<N> {
         tx: Tx,
     ) -> Result<(), Fault>
         ensures ok { OnOk result (Takes (store N.name.start N.opening N.program N.arities N.always) id (Do tx) (desk_view self.old) (desk_view self.new)) }
-        ensures err { IfErr result (λ f. OrMemory f (desk_view self.new ≡ by (desk_view self.old) self.new.pass)) }
+        ensures err { IfErr result (λ f. OrMemory f (LearnsOnly (desk_view self.old) (desk_view self.new))) }
     {
         match service.plan(tx) {
             Ok(ready) => self.take_held(service, id, WaitCondition::Plan(ready)),
@@ -248,7 +248,7 @@ impl<N: ServedNaming> Desk<N> {
         held: WaitCondition<N>,
     ) -> Result<(), Fault>
         ensures ok { OnOk result (MayWait (store N.name.start N.opening N.program N.arities N.always) id (asked held) (desk_view self.old) (desk_view self.new)) }
-        ensures err { IfErr result (λ f. OrMemory f (desk_view self.new ≡ by (desk_view self.old) self.new.pass)) }
+        ensures err { IfErr result (λ f. OrMemory f (LearnsOnly (desk_view self.old) (desk_view self.new))) }
     {
         match service.attempt(&mut self.pass, &held)? {
             Some(answer) => self.tell(id, answer),

@@ -1,6 +1,7 @@
 // Requests that may have to wait.
-ghost use Rattle.std.specs.Prelude.{◌≡◌, ◌≢◌, false, IsTrue, IfOk};
+ghost use Rattle.std.specs.Prelude.{◌≡◌, ◌≢◌, false, IsTrue, IfOk, IfErr};
 ghost use Rattle.std.specs.Map.{keys_of};
+ghost use Rattle.tmem_front.specs.Settling.{KnowsMore};
 ghost use Rattle.tmem_tree.specs.declared.settled.Settled.TheVariants.{Retry};
 ghost use Rattle.tmem_requests.specs.declared.request.RequestBody.TheVariants.{Do, Changed};
 ghost use Rattle.tmem_desk.specs.Asking.{Tries, store};
@@ -49,7 +50,8 @@ impl<R: Wait, D: Disk + Drop, N: ServedNaming, T: Invariants + Drop, S: StoredSt
         pass: &mut Pass<N>,
         held: &WaitCondition<N>,
     ) -> Result<Option<Answer>, Fault>
-        ensures { IfOk result (λ outcome. Tries (store N.name.start N.opening N.program N.arities N.always) (asked held.now) pass.old outcome pass.new) }
+        ensures tries { IfOk result (λ outcome. Tries (store N.name.start N.opening N.program N.arities N.always) (asked held.now) pass.old outcome pass.new) }
+        ensures knows { IfErr result (λ _. KnowsMore pass.old pass.new) }
     {
         match held {
             WaitCondition::Plan(ready) => self.attempt_plan(pass, ready),
@@ -59,7 +61,8 @@ impl<R: Wait, D: Disk + Drop, N: ServedNaming, T: Invariants + Drop, S: StoredSt
 
     // A transaction waits as long as it retries.
     fn attempt_plan(&self, pass: &mut Pass<N>, ready: &Ready<N>) -> Result<Option<Answer>, Fault>
-        ensures { IfOk result (λ outcome. Tries (store N.name.start N.opening N.program N.arities N.always) (Do ready.now.plan.tree) pass.old outcome pass.new) }
+        ensures tries { IfOk result (λ outcome. Tries (store N.name.start N.opening N.program N.arities N.always) (Do ready.now.plan.tree) pass.old outcome pass.new) }
+        ensures knows { IfErr result (λ _. KnowsMore pass.old pass.new) }
     {
         let settled = self.settle(pass, ready)?;
         if is_retry(&settled) {
@@ -75,7 +78,8 @@ impl<R: Wait, D: Disk + Drop, N: ServedNaming, T: Invariants + Drop, S: StoredSt
         pass: &mut Pass<N>,
         reads: &Vec<(u16, i64)>,
     ) -> Result<Option<Answer>, Fault>
-        ensures { IfOk result (λ outcome. Tries (store N.name.start N.opening N.program N.arities N.always) (Changed reads.now) pass.old outcome pass.new) }
+        ensures tries { IfOk result (λ outcome. Tries (store N.name.start N.opening N.program N.arities N.always) (Changed reads.now) pass.old outcome pass.new) }
+        ensures knows { IfErr result (λ _. KnowsMore pass.old pass.new) }
     {
         let vars = vars_of(self.alloc, reads)?;
         let (count, values) = self.see(pass, &vars)?;

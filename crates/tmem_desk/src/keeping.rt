@@ -3,10 +3,10 @@ ghost use Rattle.std.specs.Prelude.{◌≡◌, ◌⊎◌, None, position, bytes_
 ghost use Rattle.tmem_copies.specs.Numbering.{with_numbers};
 ghost use Rattle.tmem_requests.specs.declared.request.RequestBody.TheVariants.{Do, Keep, Stats as StatsOf};
 ghost use Rattle.tmem_desk.specs.Asking.{store};
-ghost use Rattle.tmem_desk.specs.Failing.{OrMemory};
+ghost use Rattle.tmem_desk.specs.Failing.{LearnsOnly, OrMemory};
 ghost use Rattle.tmem_desk.specs.Held.{desk_view};
 ghost use Rattle.tmem_desk.specs.Keeping.{kept_under};
-ghost use Rattle.tmem_desk.specs.Serving.{Takes, Runs, HasNoPlan, MayWait, by, kept_as};
+ghost use Rattle.tmem_desk.specs.Serving.{Takes, Runs, HasNoPlan, MayWait, kept_as};
 
 use crate::desk::Desk;
 use crate::held::WaitCondition;
@@ -92,7 +92,7 @@ impl<N: ServedNaming> Desk<N> {
         numbers: &[i64],
     ) -> Result<(), Fault>
         ensures ok { OnOk result (Runs (store N.name.start N.opening N.program N.arities N.always) id numbers.now (kept_under word.now (desk_view self.old).kept) (desk_view self.old) (desk_view self.new)) }
-        ensures err { IfErr result (λ f. OrMemory f (desk_view self.new ≡ by (desk_view self.old) self.new.pass)) }
+        ensures err { IfErr result (λ f. OrMemory f (LearnsOnly (desk_view self.old) (desk_view self.new))) }
     {
         let Some(index) = self.index_kept(word) else {
             return self.tell(id, Answer::Found(false));
@@ -114,7 +114,7 @@ impl<N: ServedNaming> Desk<N> {
         numbers: &[i64],
     ) -> Result<(), Fault>
         ensures ok { OnOk result (HasNoPlan (store N.name.start N.opening N.program N.arities N.always) id copy (desk_view self.old) (desk_view self.new) ⊎ MayWait (store N.name.start N.opening N.program N.arities N.always) id (Do (with_numbers numbers.now copy)) (desk_view self.old) (desk_view self.new)) }
-        ensures err { IfErr result (λ f. OrMemory f (desk_view self.new ≡ by (desk_view self.old) self.new.pass)) }
+        ensures err { IfErr result (λ f. OrMemory f (LearnsOnly (desk_view self.old) (desk_view self.new))) }
     {
         match service.plan(copy) {
             Ok(mut ready) => {

@@ -1,6 +1,7 @@
 // What a store has at one moment, as a desk tells it.
 ghost use Rattle.std.specs.Prelude.{◌≡◌, ◌++◌, ◌∷◌, [], ℕ, List, Bool, length, map, filter, IfOk, OnOk, if◌then◌else◌};
 ghost use Rattle.std.specs.Map.{keys_of};
+ghost use Rattle.tmem_front.specs.Settling.{KnowsMore};
 ghost use Rattle.tmem_requests.specs.declared.request.RequestBody.TheVariants.{State};
 ghost use Rattle.tmem_desk.specs.Asking.{SeesValues, AnswersAsk, store};
 ghost use Rattle.tmem_desk.specs.Held.{first_numbers};
@@ -30,7 +31,8 @@ impl<R: Wait, D: Disk + Drop, N: ServedNaming, T: Invariants + Drop, S: StoredSt
         pass: &mut Pass<N>,
         vars: &[u16],
     ) -> Result<(u64, Vec<(u16, i64)>), Fault>
-        ensures { IfOk result (λ seen. SeesValues (store N.name.start N.opening N.program N.arities N.always) vars.now pass.old seen.0 seen.1.items pass.new) }
+        ensures sees { IfOk result (λ seen. SeesValues (store N.name.start N.opening N.program N.arities N.always) vars.now pass.old seen.0 seen.1.items pass.new) }
+        ensures knows { KnowsMore pass.old pass.new }
     {
         let Moment { count, values, .. } = self.front.moment(self.rt, pass, vars, &[])?;
         let pairs = paired(self.alloc, vars, &values)?;
@@ -39,7 +41,8 @@ impl<R: Wait, D: Disk + Drop, N: ServedNaming, T: Invariants + Drop, S: StoredSt
 
     /// How many there are, the registered names and all values after them.
     pub(crate) fn see_all(&self, pass: &mut Pass<N>) -> Result<Answer, Fault>
-        ensures { IfOk result (λ given. AnswersAsk (store N.name.start N.opening N.program N.arities N.always) State pass.old given pass.new) }
+        ensures answers { IfOk result (λ given. AnswersAsk (store N.name.start N.opening N.program N.arities N.always) State pass.old given pass.new) }
+        ensures knows { KnowsMore pass.old pass.new }
     {
         let vars = first_vars(self.alloc, self.vars)?;
         let Moment { count, values, has } = self.front.moment(self.rt, pass, &vars, self.names)?;

@@ -1,5 +1,5 @@
 // Attempts that were made elsewhere.
-ghost use Rattle.std.specs.Prelude.{length, IfOk};
+ghost use Rattle.std.specs.Prelude.{length, IfOk, IfErr};
 ghost use Rattle.tmem_requests.specs.Fits.{ProposalFits};
 ghost use Rattle.tmem_front.specs.Settling.{KnowsMore};
 ghost use Rattle.tmem_desk.specs.Asking.{SettlesProposal, TellsEnding, TellsEnd, store};
@@ -28,7 +28,8 @@ impl<R: Wait, D: Disk + Drop, N: ServedNaming, T: Invariants + Drop, S: StoredSt
     /// store cannot go on, and by `Memory`; nothing was committed then.
     pub(crate) fn propose(&self, pass: &mut Pass<N>, proposal: &Proposal) -> Result<Answer, Fault>
         requires { ProposalFits (length N.opening.values) N.program.names N.always proposal.now }
-        ensures { IfOk result (λ given. SettlesProposal (store N.name.start N.opening N.program N.arities N.always) proposal.now pass.old given pass.new) }
+        ensures settles { IfOk result (λ given. SettlesProposal (store N.name.start N.opening N.program N.arities N.always) proposal.now pass.old given pass.new) }
+        ensures knows { IfErr result (λ _. KnowsMore pass.old pass.new) }
     {
         let attempt = proposed_attempt(self.alloc, proposal)?;
         for _ in self.rt.forever() {

@@ -1,14 +1,14 @@
 // A piece of input: its lines, those that wait, and then all that is told, once that is durable.
-ghost use Rattle.std.specs.Prelude.{◌≡◌, ◌≢◌, ◌++◌, ℕ, List, [], map, OnOk, IfOk, IfErr, IsErr, unwrap_or};
+ghost use Rattle.std.specs.Prelude.{◌≡◌, ◌≢◌, ◌++◌, ℕ, List, [], None, map, OnOk, IfOk, IfErr, IfSome, IsErr, IsNone, unwrap_or};
 ghost use Rattle.std.specs.Io.KnownBytes.{Appends};
 ghost use Rattle.tmem_front.specs.Settling.{SeesMore};
+ghost use Rattle.tmem_spine.specs.History.{count};
 ghost use Rattle.tmem_lines.specs.Lines.{HoldsRestOf};
 ghost use Rattle.tmem_desk.specs.Asking.{store};
-ghost use Rattle.tmem_desk.specs.Due.{KeepsDue};
-ghost use Rattle.tmem_desk.specs.Failing.{EndsBy, IsLast, IsUnprinted, IsMemoryOrOutput, OrMemory, PassesAll, TakesPart, TakesRest, TellsAll, TellsWhy};
+ghost use Rattle.tmem_desk.specs.Failing.{EndsBy, IsLast, IsUnprinted, IsMemoryOrOutput, OrMemory, PassesAll, TakesPart, TakesRest, TellsAll, TellsWhy, TriesUntil};
 ghost use Rattle.tmem_desk.specs.Held.{desk_view};
 ghost use Rattle.tmem_desk.specs.Serving.{by, Finishes, Splits, TakesAll, RunsPiece, ServesPiece, TakesLast, RunsLast, RunsEnd, ServesEnd, with_closed};
-ghost use Rattle.tmem_desk.specs.Told.{told_lines, failed};
+ghost use Rattle.tmem_desk.specs.Told.{rests_within, told_last, told_lines};
 
 use crate::desk::Desk;
 use crate::failure::DeskFailure;
@@ -20,6 +20,7 @@ use std::collections::VecDeque;
 use std::io::Write;
 use std::mem;
 use std::sync::Wait;
+use tmem_core::Settled;
 use tmem_disk::Disk;
 use tmem_fault::Fault;
 use tmem_invariants::Invariants;
@@ -29,8 +30,9 @@ use tmem_tree::StoredSteps;
 
 impl<N: ServedNaming> Desk<N> {
     /// Takes a piece of input, and answers all its lines and those that need not wait any more, by one write, once all that is told is
-    /// durable. Where the store cannot go on, each request that has no answer yet is answered why, and the same is the refusal; but where
-    /// that is `Memory`, some may not be answered. Refused with `Output` where the answers could not be printed.
+    /// durable. Where the store cannot go on, each request that has no answer yet is told its answer if that rests on durable transactions
+    /// alone, and else why; and the same is the refusal. But where that is `Memory`, none is told anything else, and some may not be told.
+    /// Refused with `Output` where the answers could not be printed.
     pub fn serve<R: Wait, D: Disk + Drop, T: Invariants + Drop, S: StoredSteps + Drop, W: Write>(
         &mut self,
         service: &Service<R, D, N, T, S>,
@@ -39,7 +41,7 @@ impl<N: ServedNaming> Desk<N> {
         out: &mut W,
     ) -> Result<(), DeskFailure>
         ensures ends { IfErr result (EndsBy (Appends (W.contents out.old) (W.contents out.new))) }
-        ensures told { IfErr result (λ e. (text : List ℕ) → HoldsRestOf lines.old text → TellsAll (store N.name.start N.opening N.program N.arities N.always) (λ texts. Splits (text ++ piece.now) texts lines.new) (RunsPiece (store N.name.start N.opening N.program N.arities N.always) (text ++ piece.now) lines.new (desk_view self.old)) (desk_view self.old) (Appends (W.contents out.old) (W.contents out.new)) e) }
+        ensures told { IfErr result (λ e. (text : List ℕ) → HoldsRestOf lines.old text → TellsAll (store N.name.start N.opening N.program N.arities N.always) (λ texts. Splits (text ++ piece.now) texts lines.new) (RunsPiece (store N.name.start N.opening N.program N.arities N.always) (text ++ piece.now) lines.new (desk_view self.old)) (desk_view self.old) (desk_view self.new) (Appends (W.contents out.old) (W.contents out.new)) e) }
         ensures serves { OnOk result ((text : List ℕ) → HoldsRestOf lines.old text → ServesPiece (store N.name.start N.opening N.program N.arities N.always) (text ++ piece.now) lines.new (desk_view self.old) (desk_view self.new) (Appends (W.contents out.old) (W.contents out.new))) }
     {
         if lines.add(piece).is_err() {
@@ -71,7 +73,7 @@ impl<N: ServedNaming> Desk<N> {
         service: &Service<R, D, N, T, S>,
     ) -> Result<(), Fault>
         ensures ok { OnOk result (Finishes (store N.name.start N.opening N.program N.arities N.always) (desk_view self.old) (desk_view self.new)) }
-        ensures err { IfErr result (λ f. OrMemory f (KeepsDue (desk_view self.old) (desk_view self.new))) }
+        ensures err { IfErr result (λ f. OrMemory f (TriesUntil (store N.name.start N.opening N.program N.arities N.always) (desk_view self.old) (desk_view self.new))) }
     {
         self.wake(service)?;
         self.harden(service)
@@ -131,7 +133,7 @@ impl<N: ServedNaming> Desk<N> {
         out: &mut W,
     ) -> Result<(), DeskFailure>
         ensures ends { IfErr result (EndsBy (Appends (W.contents out.old) (W.contents out.new))) }
-        ensures told { IfErr result (λ e. (text : List ℕ) → HoldsRestOf lines.old text → TellsAll (store N.name.start N.opening N.program N.arities N.always) (IsLast text) (RunsEnd (store N.name.start N.opening N.program N.arities N.always) text (desk_view self.old)) (desk_view self.old) (Appends (W.contents out.old) (W.contents out.new)) e) }
+        ensures told { IfErr result (λ e. (text : List ℕ) → HoldsRestOf lines.old text → TellsAll (store N.name.start N.opening N.program N.arities N.always) (IsLast text) (RunsEnd (store N.name.start N.opening N.program N.arities N.always) text (desk_view self.old)) (desk_view self.old) (desk_view self.new) (Appends (W.contents out.old) (W.contents out.new)) e) }
         ensures serves { OnOk result ((text : List ℕ) → HoldsRestOf lines.old text → ServesEnd (store N.name.start N.opening N.program N.arities N.always) text (desk_view self.old) (desk_view self.new) (Appends (W.contents out.old) (W.contents out.new))) }
     {
         match self.run_last(service, lines) {
@@ -188,7 +190,7 @@ impl<N: ServedNaming> Desk<N> {
         Ok(())
     }
 
-    // Answers each request that has no answer yet by why the store cannot go on.
+    // Tells each request that has no answer yet its answer, if that rests on durable transactions alone, or why the store cannot go on.
     fn fail<R: Wait, D: Disk + Drop, T: Invariants + Drop, S: StoredSteps + Drop, W: Write>(
         &mut self,
         service: &Service<R, D, N, T, S>,
@@ -199,17 +201,36 @@ impl<N: ServedNaming> Desk<N> {
         ensures never { IsErr result }
         ensures ends { IfErr result (EndsBy (Appends (W.contents out.old) (W.contents out.new))) }
         ensures memory { fault ≡ Fault.Memory → IfErr result (IsMemoryOrOutput (Appends (W.contents out.old) (W.contents out.new))) }
-        ensures told { IfErr result (λ e. (text : List ℕ) → HoldsRestOf lines.old text → TellsWhy (store N.name.start N.opening N.program N.arities N.always) (λ texts. Splits text texts lines.new) (desk_view self.old) (Appends (W.contents out.old) (W.contents out.new)) e) }
+        ensures told { IfErr result (λ e. (text : List ℕ) → HoldsRestOf lines.old text → TellsWhy (store N.name.start N.opening N.program N.arities N.always) (λ texts. Splits text texts lines.new) (desk_view self.old) (desk_view self.new) (Appends (W.contents out.old) (W.contents out.new)) e) }
     {
         let fault = why_ended(fault, service.front.fault(service.rt));
         self.pass_over(service, lines)?;
         self.close_waiting()?;
+        let durable = self.durable_at_last(service, &fault);
         let told = mem::replace(&mut self.told, Vec::new(self.alloc));
-        let Ok(failed) = all_failed(self.alloc, told, &fault) else {
+        let Ok(last) = all_last(self.alloc, told, durable, &fault) else {
             return Err(DeskFailure::Fault(Fault::Memory));
         };
-        self.print(&failed, out)?;
+        self.print(&last, out)?;
         Err(DeskFailure::Fault(fault))
+    }
+
+    // How many transactions are durable, where the store cannot go on. `None` where memory did not suffice: what was told by then is open.
+    fn durable_at_last<R, D: Disk + Drop, T: Invariants + Drop, S: StoredSteps + Drop>(
+        &mut self,
+        service: &Service<R, D, N, T, S>,
+        fault: &Fault,
+    ) -> Option<u64>
+        ensures memory { fault.now ≡ Fault.Memory → result ≡ None }
+        ensures none { IsNone result → fault.now ≡ Fault.Memory }
+        ensures counts { IfSome result (λ n. n ≡ count N.name.start self.new.pass.seen) }
+        ensures sees { SeesMore self.old.pass self.new.pass }
+        ensures desk { desk_view self.new ≡ by (desk_view self.old) self.new.pass }
+    {
+        match fault {
+            Fault::Memory => None,
+            _ => Some(service.front.look(&mut self.pass)),
+        }
     }
 
     // Takes each line that has ended, and runs none.
@@ -243,26 +264,48 @@ fn why_ended(fault: Fault, of_front: Option<Fault>) -> Fault
     }
 }
 
-// The same told by this fault.
-fn all_failed(alloc: Global, told: Vec<Told>, fault: &Fault) -> Result<Vec<Told>, AllocError>
-    ensures { IfOk result (λ all. all.items ≡ map (failed fault.now) told.items) }
+// What is told at last where so many are durable, and the store cannot go on for this fault.
+fn all_last(
+    alloc: Global,
+    told: Vec<Told>,
+    durable: Option<u64>,
+    fault: &Fault,
+) -> Result<Vec<Told>, AllocError>
+    ensures { IfOk result (λ all. all.items ≡ map (told_last durable fault.now) told.items) }
 {
     let mut all = Vec::with_capacity(alloc, told.len())?;
     for one in told {
-        all.push(with_fault(one, fault))?;
+        all.push(last_told(one, durable, fault))?;
     }
     Ok(all)
 }
 
-// The same answer by this fault.
-fn with_fault(told: Told, fault: &Fault) -> Told
-    ensures { result ≡ failed fault.now told }
+// The same of one.
+fn last_told(told: Told, durable: Option<u64>, fault: &Fault) -> Told
+    ensures { result ≡ told_last durable fault.now told }
 {
-    match told {
-        Told::Answer(AnswerLine { id, .. }) => Told::Answer(AnswerLine {
+    match (told, durable) {
+        (Told::Answer(line), Some(count)) if is_within(&line.answer, count) => {
+            Told::Answer(line)
+        }
+        (Told::Answer(AnswerLine { id, .. }), _) => Told::Answer(AnswerLine {
             id,
             answer: Answer::Fault(*fault),
         }),
-        Told::NoRequest(line) => Told::NoRequest(line),
+        (Told::NoRequest(line), _) => Told::NoRequest(line),
+    }
+}
+
+// Whether an answer names how many transactions it rests on, all of which are among the first so many.
+fn is_within(answer: &Answer, count: u64) -> bool
+    ensures { result ≡ rests_within count answer.now }
+{
+    match answer {
+        Answer::Settled(Settled::Committed { number, .. }) => *number < count,
+        Answer::Settled(Settled::Seen { at: number, .. })
+        | Answer::Values { count: number, .. }
+        | Answer::State { count: number, .. }
+        | Answer::Durable(number) => *number <= count,
+        _ => false,
     }
 }

@@ -29,7 +29,8 @@ impl<R: Wait, D: Disk + Drop, N: ServedNaming, T: Invariants + Drop, S: StoredSt
     /// Settles a plan: it is attempted again where it met another value, and after a flush where there was no room. Refused where the
     /// store cannot go on, and by `Memory`; nothing was committed then.
     pub(crate) fn settle(&self, pass: &mut Pass<N>, ready: &Ready<N>) -> Result<Settled, Fault>
-        ensures { IfOk result (λ settled. SettlesTx (store N.name.start N.opening N.program N.arities N.always) ready.now.plan.tree pass.old settled pass.new) }
+        ensures settles { IfOk result (λ settled. SettlesTx (store N.name.start N.opening N.program N.arities N.always) ready.now.plan.tree pass.old settled pass.new) }
+        ensures knows { IfErr result (λ _. KnowsMore pass.old pass.new) }
     {
         for _ in self.rt.forever() {
             match self.front.try_atomically(self.rt, pass, &ready.plan) {
@@ -66,7 +67,8 @@ impl<R: Wait, D: Disk + Drop, N: ServedNaming, T: Invariants + Drop, S: StoredSt
 
     /// Runs a transaction once.
     pub(crate) fn try_once(&self, pass: &mut Pass<N>, tx: Tx) -> Result<Answer, Fault>
-        ensures { IfOk result (λ given. AnswersAsk (store N.name.start N.opening N.program N.arities N.always) (Try tx) pass.old given pass.new) }
+        ensures answers { IfOk result (λ given. AnswersAsk (store N.name.start N.opening N.program N.arities N.always) (Try tx) pass.old given pass.new) }
+        ensures knows { IfErr result (λ _. KnowsMore pass.old pass.new) }
     {
         match self.plan(tx) {
             Ok(ready) => {

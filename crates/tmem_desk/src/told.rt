@@ -24,7 +24,7 @@ pub enum Told {
 impl<N: ServedNaming> Desk<N> {
     /// Prints what is told, by one write.
     pub(crate) fn print<W: Write>(&self, told: &[Told], out: &mut W) -> Result<(), DeskFailure>
-        requires { MayPrint self.now.pass told.now }
+        requires { MayPrint N.name.start self.now.pass told.now }
         ensures printed { OnOk result (Appends (W.contents out.old) (W.contents out.new) (told_lines told.now)) }
         ensures ends { IfErr result (EndsBy (Appends (W.contents out.old) (W.contents out.new))) }
         ensures err { IfErr result (IsUnprinted (Appends (W.contents out.old) (W.contents out.new)) told.now) }

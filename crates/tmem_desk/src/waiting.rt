@@ -1,8 +1,7 @@
 // Those that wait are tried again.
 ghost use Rattle.std.specs.Prelude.{OnOk, IfErr};
 ghost use Rattle.tmem_desk.specs.Asking.{store};
-ghost use Rattle.tmem_desk.specs.Due.{KeepsDue};
-ghost use Rattle.tmem_desk.specs.Failing.{OrMemory};
+ghost use Rattle.tmem_desk.specs.Failing.{GoesBehind, OrMemory, TriesUntil};
 ghost use Rattle.tmem_desk.specs.Held.{desk_view};
 ghost use Rattle.tmem_desk.specs.Serving.{TriesNext, Round, Wakes};
 
@@ -22,7 +21,7 @@ impl<N: ServedNaming> Desk<N> {
         service: &Service<R, D, N, T, S>,
     ) -> Result<(), Fault>
         ensures ok { OnOk result (Wakes (store N.name.start N.opening N.program N.arities N.always) (desk_view self.old) (desk_view self.new)) }
-        ensures err { IfErr result (λ f. OrMemory f (KeepsDue (desk_view self.old) (desk_view self.new))) }
+        ensures err { IfErr result (λ f. OrMemory f (TriesUntil (store N.name.start N.opening N.program N.arities N.always) (desk_view self.old) (desk_view self.new))) }
     {
         for _ in service.rt.forever() {
             let told = self.told.len();
@@ -40,7 +39,7 @@ impl<N: ServedNaming> Desk<N> {
         service: &Service<R, D, N, T, S>,
     ) -> Result<(), Fault>
         ensures ok { OnOk result (Round (store N.name.start N.opening N.program N.arities N.always) (desk_view self.old) (desk_view self.new)) }
-        ensures err { IfErr result (λ f. OrMemory f (KeepsDue (desk_view self.old) (desk_view self.new))) }
+        ensures err { IfErr result (λ f. OrMemory f (TriesUntil (store N.name.start N.opening N.program N.arities N.always) (desk_view self.old) (desk_view self.new))) }
     {
         for _turn in 0..self.waiting.len() {
             self.try_first(service)?;
@@ -54,7 +53,7 @@ impl<N: ServedNaming> Desk<N> {
         service: &Service<R, D, N, T, S>,
     ) -> Result<(), Fault>
         ensures ok { OnOk result (TriesNext (store N.name.start N.opening N.program N.arities N.always) (desk_view self.old) (desk_view self.new)) }
-        ensures err { IfErr result (λ f. OrMemory f (KeepsDue (desk_view self.old) (desk_view self.new))) }
+        ensures err { IfErr result (λ f. OrMemory f (GoesBehind (desk_view self.old) (desk_view self.new))) }
     {
         let Some(one) = self.waiting.pop_front() else {
             return Ok(());

@@ -66,6 +66,31 @@ fn commit_all<R: Abort + Wait>(rt: &R, alloc: Global, asked: &str) -> Result<(),
     serve_text(rt, alloc, piece, wanted)
 }
 
+// Two flushes make room for the transactions behind 256 and 320, and others come at the end. Each takes 64, and makes two syncs: each of these
+// fails in turn, or the first of the checkpoint that the third flush wants. What was durable before is told as committed.
+#[test]
+fn what_is_durable_is_told_where_a_later_flush_fails(rt: HostRuntime) -> Result<(), Fail> {
+    let alloc = rt.alloc();
+    for fails in 0..6u64 {
+        let durable = fails / 2 * 64;
+        let mut piece = Vec::new(alloc);
+        let mut wanted = Vec::new(alloc);
+        for id in 0..330u64 {
+            writeln!(piece, "{{\"id\":{id},\"do\":{{\"write\":[2,0]}}}}")?;
+            if id < durable {
+                writeln!(
+                    wanted,
+                    "{{\"id\":{id},\"committed\":{id},\"registers\":[]}}"
+                )?;
+            } else {
+                writeln!(wanted, "{{\"id\":{id},\"fault\":4,\"word\":\"unknown\"}}")?;
+            }
+        }
+        serve_where(&rt, alloc, Some(fails), piece, wanted)?;
+    }
+    Ok(())
+}
+
 // Serves one piece in a new store.
 fn serve_text<R: Abort + Wait>(
     rt: &R,
@@ -73,10 +98,21 @@ fn serve_text<R: Abort + Wait>(
     piece: Vec<u8>,
     wanted: Vec<u8>,
 ) -> Result<(), Fail> {
+    serve_where(rt, alloc, None, piece, wanted)
+}
+
+// The same where a sync of the device fails.
+fn serve_where<R: Abort + Wait>(
+    rt: &R,
+    alloc: Global,
+    fails: Option<u64>,
+    piece: Vec<u8>,
+    wanted: Vec<u8>,
+) -> Result<(), Fail> {
     let piece = String::from_utf8(piece)?;
     let case = Case {
         name: "a limit",
-        fails: None,
+        fails,
         pieces: &[piece.as_str()],
         prints: &[],
     };

@@ -76,19 +76,43 @@ static CASES: &[Case<'static>] = &[
         ],
     },
     Case {
-        name: "where the device fails, each request with no answer yet is told so",
+        name: "where the device fails, each request with no answer yet is told so, but what rests on durable transactions alone is answered",
         // a flush makes two syncs: this is the second of the second one
         fails: Some(3),
         pieces: &[
             "{\"id\":1,\"do\":{\"seq\":[{\"put\":[0,8]},{\"write\":[2,0]}]}}\n",
-            "{\"id\":2,\"do\":\"retry\"}\n{\"id\":3,\"do\":{\"seq\":[{\"put\":[0,9]},{\"write\":[2,0]}]}}\n{\"id\":4,\"ask\":\"look\"}\n",
-            "{\"id\":5,\"ask\":\"look\"}\n",
+            "{\"id\":2,\"do\":\"retry\"}\n{\"id\":3,\"get\":[2]}\n{\"id\":4,\"do\":{\"read\":[2,0]}}\n{\"id\":5,\"ask\":\"state\"}\n{\"id\":6,\"do\":{\"seq\":[{\"put\":[0,9]},{\"write\":[2,0]}]}}\n{\"id\":7,\"ask\":\"look\"}\n{\"id\":8,\"get\":[2]}\n{\"id\":9,\"do\":{\"read\":[2,0]}}\n{\"id\":10,\"ask\":\"state\"}\n",
+            "{\"id\":11,\"ask\":\"look\"}\n",
         ],
         prints: &[
             "{\"id\":1,\"committed\":0,\"registers\":[8]}",
+            "{\"id\":3,\"count\":1,\"values\":[[2,8]]}",
+            "{\"id\":4,\"seen\":1,\"registers\":[8]}",
+            "{\"id\":5,\"count\":1,\"names\":[],\"values\":[0,0,8,0]}",
+            "{\"id\":6,\"fault\":4,\"word\":\"unknown\"}",
+            "{\"id\":7,\"durable\":1}",
+            "{\"id\":8,\"fault\":4,\"word\":\"unknown\"}",
+            "{\"id\":9,\"fault\":4,\"word\":\"unknown\"}",
+            "{\"id\":10,\"fault\":4,\"word\":\"unknown\"}",
+            "{\"id\":2,\"fault\":4,\"word\":\"unknown\"}",
+        ],
+    },
+    Case {
+        name: "so is none that names no transaction",
+        fails: Some(0),
+        pieces: &[
+            "{\"id\":1,\"do\":{\"abort\":7}}\n{\"id\":2,\"try\":\"retry\"}\n{\"id\":3,\"do\":{\"seq\":[{\"put\":[0,-1]},{\"write\":[0,0]},{\"check\":\"solvent\"}]}}\n{\"id\":4,\"do\":{\"read\":[9,0]}}\n{\"id\":5,\"keep\":[\"word\",\"skip\"]}\n{\"id\":6,\"cancel\":9}\n{\"id\":7,\"ask\":\"stats\"}\n{\"id\":8,\"settle\":{\"reads\":[[0,1]]}}\n{\"id\":9,\"do\":{\"write\":[0,0]}}\n",
+        ],
+        prints: &[
+            "{\"id\":1,\"fault\":4,\"word\":\"unknown\"}",
+            "{\"id\":2,\"fault\":4,\"word\":\"unknown\"}",
             "{\"id\":3,\"fault\":4,\"word\":\"unknown\"}",
             "{\"id\":4,\"fault\":4,\"word\":\"unknown\"}",
-            "{\"id\":2,\"fault\":4,\"word\":\"unknown\"}",
+            "{\"id\":5,\"fault\":4,\"word\":\"unknown\"}",
+            "{\"id\":6,\"fault\":4,\"word\":\"unknown\"}",
+            "{\"id\":7,\"fault\":4,\"word\":\"unknown\"}",
+            "{\"id\":8,\"fault\":4,\"word\":\"unknown\"}",
+            "{\"id\":9,\"fault\":4,\"word\":\"unknown\"}",
         ],
     },
     Case {

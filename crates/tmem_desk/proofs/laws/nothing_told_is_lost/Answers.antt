@@ -1,11 +1,13 @@
 use Rattle.std.proofs.Common.{◌≡◌, ap, sym, subst}
 use Rattle.std.specs.Prelude.{All}
+use Rattle.std.specs.Io.KnownBytes.{Appends}
 use Rattle.tmem_spine.specs.History.{count}
 use Rattle.tmem_spine.specs.Views.{PassRoleView}
 use Rattle.tmem_desk.specs.Desks.{DeskView}
 use Rattle.tmem_desk.specs.Durable.{TellsAmong}
+use Rattle.tmem_desk.specs.Failing.{PrintsBeginning}
 use Rattle.tmem_desk.specs.Serving.{with_closed}
-use Rattle.tmem_desk.proofs.Lasting.{nothing_told, texts_told, last_taken_told, finished_told, closed_told}
+use Rattle.tmem_desk.proofs.Lasting.{nothing_told, texts_told, last_taken_told, finished_told, closed_told, stopped_told}
 use Rattle.tmem_desk.proofs.Knowing.{text_keeps, next_keeps, finished_keeps}
 use Rattle.tmem_desk.proofs.laws.nothing_told_is_lost.Goals as goal
 
@@ -30,6 +32,12 @@ returns-clause-ran_end c s text v w so none =
     let taken = last_taken_told s text v so.runs.taken (nothing_told s v none) so.runs.takes in
     subst (λ (d : DeskView). All (TellsAmong (count s.start d.pass.seen)) d.told) (sym so.is)
     (closed_told (count s.start so.ran.pass.seen) so.ran (finished_told s so.runs.taken so.ran taken so.runs.finishes))
+
+pub returns-clause-stopped : goal.returns-clause-stopped
+returns-clause-stopped c s texts mid w fault before after told = stopped_told s texts mid w fault (Appends before after) told
+
+pub returns-clause-stopped_output : goal.returns-clause-stopped_output
+returns-clause-stopped_output c s texts mid w fault before after told = stopped_told s texts mid w fault (PrintsBeginning (Appends before after)) told
 
 pub returns-clause-lines : goal.returns-clause-lines
 returns-clause-lines c s text v w t = text_keeps s text v w t

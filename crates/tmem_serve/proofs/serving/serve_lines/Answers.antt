@@ -38,7 +38,7 @@ returns-in_err-end-in-Err-clause-stopped g c =
     let read = c.in-Err.ensures.none in
     let given = g.W.Write.contents c.end.new.out in
     err_is (StopsInput s v unread left before given) c.from_residual-in_err-end-in-Err.result c.in_err-end-in-Err.field-0.0 c.from_residual-in_err-end-in-Err.ensures.1
-    (stopped s v unread before met c.loop.lines rest left after given _ c.in_err-end-in-Err.field-0.0 so read c.in_err-end-in-Err.ensures.ends (inr (c.in_err-end-in-Err.ensures.told so.left so.stands)))
+    (stopped s v unread before met c.loop.lines rest left after given _ c.in_err-end-in-Err.field-0.0 so read c.in_err-end-in-Err.ensures.ends (inr (desk_view c.end.new.self, c.in_err-end-in-Err.ensures.told so.left so.stands)))
 
 pub returns-in-Err-clause-served : goal.returns-in-Err-clause-served
 returns-in-Err-clause-served g c =
@@ -89,7 +89,7 @@ returns-in_err-serve-in-Ok-clause-stopped g c =
     let piece : c.first_of.result.now ≡ take c.in-Ok.count c.read_some.new.piece = subst (λ (xs : List ℕ). c.first_of.result.now ≡ take c.in-Ok.count xs) same c.first_of.ensures in
     let came = subst (Consumes rest left) (sym piece) read in
     err_is (StopsInput s v unread left before given) c.from_residual-in_err-serve-in-Ok.result c.in_err-serve-in-Ok.field-0.0 c.from_residual-in_err-serve-in-Ok.ensures.1
-    (stopped s v unread before met c.loop.lines rest left after given _ c.in_err-serve-in-Ok.field-0.0 so came c.in_err-serve-in-Ok.ensures.ends (inl (c.serve.new.lines, c.in_err-serve-in-Ok.ensures.told so.left so.stands)))
+    (stopped s v unread before met c.loop.lines rest left after given _ c.in_err-serve-in-Ok.field-0.0 so came c.in_err-serve-in-Ok.ensures.ends (inl (c.serve.new.lines, desk_view c.serve.new.self, c.in_err-serve-in-Ok.ensures.told so.left so.stands)))
 
 pub loop-preserved : goal.loop-preserved
 loop-preserved g c =

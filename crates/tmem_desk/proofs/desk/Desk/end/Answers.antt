@@ -17,7 +17,7 @@ returns-in_ok-close_waiting-in-Ok-clause-serves g c =
 
 pub returns-in_ok-close_waiting-in-Ok-clause-told : goal.returns-in_ok-close_waiting-in-Ok-clause-told
 returns-in_ok-close_waiting-in-Ok-clause-told g c =
-    unprinted_texts _ (store g.N.Naming.name.start g.N.StoreNaming.opening g.N.ProgramNaming.program g.N.ServedNaming.arities g.N.ServedNaming.always) IsLast (λ (text : List ℕ). RunsEnd (store g.N.Naming.name.start g.N.StoreNaming.opening g.N.ProgramNaming.program g.N.ServedNaming.arities g.N.ServedNaming.always) text (desk_view c.args.self.now)) (desk_view c.args.self.now) (desk_view c.close_waiting.new.self) (Appends (g.W.Write.contents c.args.out.now) (g.W.Write.contents c.give.new.out)) c.give.result
+    unprinted_texts _ (store g.N.Naming.name.start g.N.StoreNaming.opening g.N.ProgramNaming.program g.N.ServedNaming.arities g.N.ServedNaming.always) IsLast (λ (text : List ℕ). RunsEnd (store g.N.Naming.name.start g.N.StoreNaming.opening g.N.ProgramNaming.program g.N.ServedNaming.arities g.N.ServedNaming.always) text (desk_view c.args.self.now)) (desk_view c.args.self.now) (desk_view c.close_waiting.new.self) (desk_view c.give.new.self) (Appends (g.W.Write.contents c.args.out.now) (g.W.Write.contents c.give.new.out)) c.give.result
     (λ text stands. record { ran = desk_view c.run_last.new.self; runs = c.in-Ok.ensures.runs text stands; is = c.in_ok-close_waiting-in-Ok.ensures.told }) c.give.ensures.err
 
 pub returns-in_err-close_waiting-in-Ok-clause-told : goal.returns-in_err-close_waiting-in-Ok-clause-told
@@ -25,4 +25,4 @@ returns-in_err-close_waiting-in-Ok-clause-told g c = handed c.from_residual.resu
 
 pub returns-in-Err-clause-told : goal.returns-in-Err-clause-told
 returns-in-Err-clause-told g c =
-    end_fails c.fail.result (store g.N.Naming.name.start g.N.StoreNaming.opening g.N.ProgramNaming.program g.N.ServedNaming.arities g.N.ServedNaming.always) c.run_last.new.lines c.fail.new.lines (λ (text : List ℕ). RunsEnd (store g.N.Naming.name.start g.N.StoreNaming.opening g.N.ProgramNaming.program g.N.ServedNaming.arities g.N.ServedNaming.always) text (desk_view c.args.self.now)) (desk_view c.args.self.now) (desk_view c.run_last.new.self) (Appends (g.W.Write.contents c.args.out.now) (g.W.Write.contents c.fail.new.out)) c.in-Err.fault c.in-Err.ensures.err c.run_last.ensures.rest c.fail.ensures.memory c.fail.ensures.told
+    end_fails c.fail.result (store g.N.Naming.name.start g.N.StoreNaming.opening g.N.ProgramNaming.program g.N.ServedNaming.arities g.N.ServedNaming.always) c.run_last.new.lines c.fail.new.lines (λ (text : List ℕ). RunsEnd (store g.N.Naming.name.start g.N.StoreNaming.opening g.N.ProgramNaming.program g.N.ServedNaming.arities g.N.ServedNaming.always) text (desk_view c.args.self.now)) (desk_view c.args.self.now) (desk_view c.run_last.new.self) (desk_view c.fail.new.self) (Appends (g.W.Write.contents c.args.out.now) (g.W.Write.contents c.fail.new.out)) c.in-Err.fault c.in-Err.ensures.err c.run_last.ensures.rest c.fail.ensures.memory c.fail.ensures.told

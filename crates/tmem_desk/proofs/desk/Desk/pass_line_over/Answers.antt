@@ -2,7 +2,6 @@ use Rattle.std.proofs.Common.{w64, inl, inr}
 use Rattle.std.proofs.lemmas.Int.{to_z-of_z}
 use Rattle.std.proofs.lemmas.Result.{on_ok_weaker}
 use Rattle.tmem_fault.specs.declared.fault.Fault.TheVariants.{Closed}
-use Rattle.tmem_requests.specs.declared.answer.Answer.TheVariants.{Fault}
 use Rattle.tmem_desk.specs.Asking.{store}
 use Rattle.tmem_desk.specs.Held.{desk_view}
 use Rattle.tmem_desk.proofs.Losing.{passed_over}
@@ -12,7 +11,7 @@ pub returns-in-Ok-clause-ok : goal.returns-in-Ok-clause-ok
 returns-in-Ok-clause-ok g c =
     on_ok_weaker c.tell.result
     (λ is.
-    inl (passed_over (store g.N.Naming.name.start g.N.StoreNaming.opening g.N.ProgramNaming.program g.N.ServedNaming.arities g.N.ServedNaming.always) c.args.text.now c.in-Ok.request.id _ c.in-Ok.request.ask (Fault Closed) (desk_view c.args.self.now) (desk_view c.tell.new.self)
+    inl (passed_over (store g.N.Naming.name.start g.N.StoreNaming.opening g.N.ProgramNaming.program g.N.ServedNaming.arities g.N.ServedNaming.always) c.args.text.now c.in-Ok.request.id _ c.in-Ok.request.ask Closed (desk_view c.args.self.now) (desk_view c.tell.new.self)
     (to_z-of_z w64 c.in-Ok.request.id c.in-Ok.ensures.request.0.request.numbered.is.fits) c.in-Ok.ensures.request is))
     c.tell.ensures.ok
 

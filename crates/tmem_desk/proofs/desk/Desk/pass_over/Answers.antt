@@ -2,12 +2,11 @@ use Rattle.std.proofs.Common.{ℕ, List, subst}
 use Rattle.tmem_desk.specs.Asking.{store}
 use Rattle.tmem_desk.specs.Failing.{PassesLine}
 use Rattle.tmem_desk.specs.Held.{desk_view}
-use Rattle.tmem_desk.proofs.Taking.{long_text}
-use Rattle.tmem_desk.proofs.Losing.{handed, no_part, part_all, part_more, passed_loses, text_loses}
+use Rattle.tmem_desk.proofs.Losing.{handed, line_passes, long_passes, passes_all, passes_more, passes_none}
 use Rattle.tmem_desk.proofs.desk.Desk.pass_over.Goals as goal
 
 pub loop-init : goal.loop-init
-loop-init g c text stands = no_part (store g.N.Naming.name.start g.N.StoreNaming.opening g.N.ProgramNaming.program g.N.ServedNaming.arities g.N.ServedNaming.always) text c.args.lines.now (desk_view c.args.self.now) stands
+loop-init g c text stands = passes_none (store g.N.Naming.name.start g.N.StoreNaming.opening g.N.ProgramNaming.program g.N.ServedNaming.arities g.N.ServedNaming.always) text c.args.lines.now (desk_view c.args.self.now) stands
 
 pub loop-preserved-in-Continue-1 : goal.loop-preserved-in-Continue-1
 loop-preserved-in-Continue-1 g c text stands =
@@ -17,7 +16,7 @@ loop-preserved-in-Continue-1 g c text stands =
     let w = desk_view c.pass_line_over.new.self in
     let so = c.loop.invariant text stands in
     let next = c.cut.ensures.line c.in-Line.is so.rest so.stands in
-    part_more s text c.cut.new.self.line c.loop.lines c.cut.new.self v mid w so next.0 (passed_loses s c.cut.new.self.line mid w next.1 (subst (λ (t : List ℕ). PassesLine s t mid w) c.line.ensures c.in_ok-pass_line_over-in-Line.ensures.ok))
+    passes_more s text c.cut.new.self.line c.loop.lines c.cut.new.self v mid w so next.0 (line_passes s c.cut.new.self.line mid w next.1 (subst (λ (t : List ℕ). PassesLine s t mid w) c.line.ensures c.in_ok-pass_line_over-in-Line.ensures.ok))
 
 pub loop-preserved : goal.loop-preserved
 loop-preserved g c text stands =
@@ -27,13 +26,13 @@ loop-preserved g c text stands =
     let w = desk_view c.take_long_line.new.self in
     let so = c.loop.invariant text stands in
     let next = c.cut.ensures.long c.in-TooLong.is so.rest so.stands in
-    part_more s text next.0 c.loop.lines c.cut.new.self v mid w so next.1 (text_loses s next.0 mid w (long_text s next.0 mid w next.2 c.in_ok-take_long_line-in-TooLong.ensures.ok))
+    passes_more s text next.0 c.loop.lines c.cut.new.self v mid w so next.1 (long_passes s next.0 mid w next.2 c.in_ok-take_long_line-in-TooLong.ensures.ok)
 
 pub returns-in-Nothing-clause-ok : goal.returns-in-Nothing-clause-ok
 returns-in-Nothing-clause-ok g c text stands =
     let so = c.loop.invariant text stands in
     let none = c.cut.ensures.nothing c.in-Nothing.is so.rest so.stands in
-    part_all (store g.N.Naming.name.start g.N.StoreNaming.opening g.N.ProgramNaming.program g.N.ServedNaming.arities g.N.ServedNaming.always) text c.loop.lines c.cut.new.self (desk_view c.args.self.now) (desk_view c.loop.self) so none.0 none.1
+    passes_all (store g.N.Naming.name.start g.N.StoreNaming.opening g.N.ProgramNaming.program g.N.ServedNaming.arities g.N.ServedNaming.always) text c.loop.lines c.cut.new.self (desk_view c.args.self.now) (desk_view c.loop.self) so none.0 none.1
 
 pub returns-in_err-pass_line_over-in-Line-clause-err : goal.returns-in_err-pass_line_over-in-Line-clause-err
 returns-in_err-pass_line_over-in-Line-clause-err g c = handed c.from_residual.result c.in_err-pass_line_over-in-Line.field-0.0 _ c.from_residual.ensures.1 c.in_err-pass_line_over-in-Line.ensures.err

@@ -9,6 +9,7 @@ use Rattle.tmem_desk.specs.Keeping.{kept_under}
 use Rattle.tmem_desk.specs.Serving.{Runs}
 use Rattle.tmem_desk.proofs.Answering.{is_answered, takes_as, looked}
 use Rattle.tmem_desk.proofs.Losing.{handed, memory_only}
+use Rattle.tmem_desk.proofs.Sight.{sees_by_knowing, sees_the_same}
 use Rattle.tmem_desk.proofs.desk.Desk.take.Goals as goal
 
 pub returns-in-Do-clause-ok : goal.returns-in-Do-clause-ok
@@ -29,19 +30,19 @@ returns-in-Stats-clause-ok g c = on_ok_weaker c.tell_stats.result (takes_as (sto
 pub returns-in_ok-answer-in-Try-clause-ok : goal.returns-in_ok-answer-in-Try-clause-ok
 returns-in_ok-answer-in-Try-clause-ok g c =
     on_ok_weaker c.tell.result
-    (λ is. takes_as (store g.N.Naming.name.start g.N.StoreNaming.opening g.N.ProgramNaming.program g.N.ServedNaming.arities g.N.ServedNaming.always) c.args.id _ (ask.Try c.in-Try.tx) c.args.ask (desk_view c.args.self.now) (desk_view c.tell.new.self) (to_z-of_z w64 c.args.id c.ranges.id) c.in-Try.is (is_answered (store g.N.Naming.name.start g.N.StoreNaming.opening g.N.ProgramNaming.program g.N.ServedNaming.arities g.N.ServedNaming.always) _ (ask.Try c.in-Try.tx) (desk_view c.args.self.now) (desk_view c.tell.new.self) c.try_once.new.pass c.in_ok-answer-in-Try.answer c.in_ok-answer-in-Try.ensures is))
+    (λ is. takes_as (store g.N.Naming.name.start g.N.StoreNaming.opening g.N.ProgramNaming.program g.N.ServedNaming.arities g.N.ServedNaming.always) c.args.id _ (ask.Try c.in-Try.tx) c.args.ask (desk_view c.args.self.now) (desk_view c.tell.new.self) (to_z-of_z w64 c.args.id c.ranges.id) c.in-Try.is (is_answered (store g.N.Naming.name.start g.N.StoreNaming.opening g.N.ProgramNaming.program g.N.ServedNaming.arities g.N.ServedNaming.always) _ (ask.Try c.in-Try.tx) (desk_view c.args.self.now) (desk_view c.tell.new.self) c.try_once.new.pass c.in_ok-answer-in-Try.answer c.in_ok-answer-in-Try.ensures.answers is))
     c.tell.ensures.ok
 
 pub returns-in_ok-count-in-Get-clause-ok : goal.returns-in_ok-count-in-Get-clause-ok
 returns-in_ok-count-in-Get-clause-ok g c =
     on_ok_weaker c.tell-in-Get.result
-    (λ is. takes_as (store g.N.Naming.name.start g.N.StoreNaming.opening g.N.ProgramNaming.program g.N.ServedNaming.arities g.N.ServedNaming.always) c.args.id _ (ask.Get c.in-Get.vars) c.args.ask (desk_view c.args.self.now) (desk_view c.tell-in-Get.new.self) (to_z-of_z w64 c.args.id c.ranges.id) c.in-Get.is (is_answered (store g.N.Naming.name.start g.N.StoreNaming.opening g.N.ProgramNaming.program g.N.ServedNaming.arities g.N.ServedNaming.always) _ (ask.Get c.in-Get.vars) (desk_view c.args.self.now) (desk_view c.tell-in-Get.new.self) c.see.new.pass (answer.Values c.in_ok-count-in-Get.count c.in_ok-count-in-Get.values) (subst (λ (vars : List ℕ). SeesValues (store g.N.Naming.name.start g.N.StoreNaming.opening g.N.ProgramNaming.program g.N.ServedNaming.arities g.N.ServedNaming.always) vars c.args.self.now.pass c.in_ok-count-in-Get.count c.in_ok-count-in-Get.values.items c.see.new.pass) c.deref.ensures.value c.in_ok-count-in-Get.ensures) is))
+    (λ is. takes_as (store g.N.Naming.name.start g.N.StoreNaming.opening g.N.ProgramNaming.program g.N.ServedNaming.arities g.N.ServedNaming.always) c.args.id _ (ask.Get c.in-Get.vars) c.args.ask (desk_view c.args.self.now) (desk_view c.tell-in-Get.new.self) (to_z-of_z w64 c.args.id c.ranges.id) c.in-Get.is (is_answered (store g.N.Naming.name.start g.N.StoreNaming.opening g.N.ProgramNaming.program g.N.ServedNaming.arities g.N.ServedNaming.always) _ (ask.Get c.in-Get.vars) (desk_view c.args.self.now) (desk_view c.tell-in-Get.new.self) c.see.new.pass (answer.Values c.in_ok-count-in-Get.count c.in_ok-count-in-Get.values) (subst (λ (vars : List ℕ). SeesValues (store g.N.Naming.name.start g.N.StoreNaming.opening g.N.ProgramNaming.program g.N.ServedNaming.arities g.N.ServedNaming.always) vars c.args.self.now.pass c.in_ok-count-in-Get.count c.in_ok-count-in-Get.values.items c.see.new.pass) c.deref.ensures.value c.in_ok-count-in-Get.ensures.sees) is))
     c.tell-in-Get.ensures.ok
 
 pub returns-in_ok-answer-in-Settle-clause-ok : goal.returns-in_ok-answer-in-Settle-clause-ok
 returns-in_ok-answer-in-Settle-clause-ok g c =
     on_ok_weaker c.tell-in-Settle.result
-    (λ is. takes_as (store g.N.Naming.name.start g.N.StoreNaming.opening g.N.ProgramNaming.program g.N.ServedNaming.arities g.N.ServedNaming.always) c.args.id _ (ask.Settle c.in-Settle.proposal) c.args.ask (desk_view c.args.self.now) (desk_view c.tell-in-Settle.new.self) (to_z-of_z w64 c.args.id c.ranges.id) c.in-Settle.is (is_answered (store g.N.Naming.name.start g.N.StoreNaming.opening g.N.ProgramNaming.program g.N.ServedNaming.arities g.N.ServedNaming.always) _ (ask.Settle c.in-Settle.proposal) (desk_view c.args.self.now) (desk_view c.tell-in-Settle.new.self) c.propose.new.pass c.in_ok-answer-in-Settle.answer c.in_ok-answer-in-Settle.ensures is))
+    (λ is. takes_as (store g.N.Naming.name.start g.N.StoreNaming.opening g.N.ProgramNaming.program g.N.ServedNaming.arities g.N.ServedNaming.always) c.args.id _ (ask.Settle c.in-Settle.proposal) c.args.ask (desk_view c.args.self.now) (desk_view c.tell-in-Settle.new.self) (to_z-of_z w64 c.args.id c.ranges.id) c.in-Settle.is (is_answered (store g.N.Naming.name.start g.N.StoreNaming.opening g.N.ProgramNaming.program g.N.ServedNaming.arities g.N.ServedNaming.always) _ (ask.Settle c.in-Settle.proposal) (desk_view c.args.self.now) (desk_view c.tell-in-Settle.new.self) c.propose.new.pass c.in_ok-answer-in-Settle.answer c.in_ok-answer-in-Settle.ensures.settles is))
     c.tell-in-Settle.ensures.ok
 
 pub returns-in-Look-clause-ok : goal.returns-in-Look-clause-ok
@@ -53,7 +54,7 @@ returns-in-Look-clause-ok g c =
 pub returns-in_ok-answer-in-State-clause-ok : goal.returns-in_ok-answer-in-State-clause-ok
 returns-in_ok-answer-in-State-clause-ok g c =
     on_ok_weaker c.tell-in-State.result
-    (λ is. takes_as (store g.N.Naming.name.start g.N.StoreNaming.opening g.N.ProgramNaming.program g.N.ServedNaming.arities g.N.ServedNaming.always) c.args.id _ ask.State c.args.ask (desk_view c.args.self.now) (desk_view c.tell-in-State.new.self) (to_z-of_z w64 c.args.id c.ranges.id) c.in-State.is (is_answered (store g.N.Naming.name.start g.N.StoreNaming.opening g.N.ProgramNaming.program g.N.ServedNaming.arities g.N.ServedNaming.always) _ ask.State (desk_view c.args.self.now) (desk_view c.tell-in-State.new.self) c.see_all.new.pass c.in_ok-answer-in-State.answer c.in_ok-answer-in-State.ensures is))
+    (λ is. takes_as (store g.N.Naming.name.start g.N.StoreNaming.opening g.N.ProgramNaming.program g.N.ServedNaming.arities g.N.ServedNaming.always) c.args.id _ ask.State c.args.ask (desk_view c.args.self.now) (desk_view c.tell-in-State.new.self) (to_z-of_z w64 c.args.id c.ranges.id) c.in-State.is (is_answered (store g.N.Naming.name.start g.N.StoreNaming.opening g.N.ProgramNaming.program g.N.ServedNaming.arities g.N.ServedNaming.always) _ ask.State (desk_view c.args.self.now) (desk_view c.tell-in-State.new.self) c.see_all.new.pass c.in_ok-answer-in-State.answer c.in_ok-answer-in-State.ensures.answers is))
     c.tell-in-State.ensures.ok
 
 pub returns-in_ok-answer-in-Checkpoint-clause-ok : goal.returns-in_ok-answer-in-Checkpoint-clause-ok
@@ -90,16 +91,16 @@ pub returns-in_ok-answer-in-Checkpoint-clause-err : goal.returns-in_ok-answer-in
 returns-in_ok-answer-in-Checkpoint-clause-err g c = memory_only _ c.tell-in-Checkpoint.result c.tell-in-Checkpoint.ensures.err
 
 pub returns-in_err-answer-in-Try-clause-err : goal.returns-in_err-answer-in-Try-clause-err
-returns-in_err-answer-in-Try-clause-err g c = handed c.from_residual.result c.in_err-answer-in-Try.field-0.0 _ c.from_residual.ensures.1 (inr refl)
+returns-in_err-answer-in-Try-clause-err g c = handed c.from_residual.result c.in_err-answer-in-Try.field-0.0 _ c.from_residual.ensures.1 (inr (record { is = refl; sees = sees_by_knowing c.args.self.now.pass c.try_once.new.pass c.in_err-answer-in-Try.ensures.knows }))
 
 pub returns-in_err-count-in-Get-clause-err : goal.returns-in_err-count-in-Get-clause-err
-returns-in_err-count-in-Get-clause-err g c = handed c.from_residual-in_err-count-in-Get.result c.in_err-count-in-Get.field-0.0 _ c.from_residual-in_err-count-in-Get.ensures.1 (inr refl)
+returns-in_err-count-in-Get-clause-err g c = handed c.from_residual-in_err-count-in-Get.result c.in_err-count-in-Get.field-0.0 _ c.from_residual-in_err-count-in-Get.ensures.1 (inr (record { is = refl; sees = sees_by_knowing c.args.self.now.pass c.see.new.pass c.see.ensures.knows }))
 
 pub returns-in_err-answer-in-Settle-clause-err : goal.returns-in_err-answer-in-Settle-clause-err
-returns-in_err-answer-in-Settle-clause-err g c = handed c.from_residual-in_err-answer-in-Settle.result c.in_err-answer-in-Settle.field-0.0 _ c.from_residual-in_err-answer-in-Settle.ensures.1 (inr refl)
+returns-in_err-answer-in-Settle-clause-err g c = handed c.from_residual-in_err-answer-in-Settle.result c.in_err-answer-in-Settle.field-0.0 _ c.from_residual-in_err-answer-in-Settle.ensures.1 (inr (record { is = refl; sees = sees_by_knowing c.args.self.now.pass c.propose.new.pass c.in_err-answer-in-Settle.ensures.knows }))
 
 pub returns-in_err-answer-in-State-clause-err : goal.returns-in_err-answer-in-State-clause-err
-returns-in_err-answer-in-State-clause-err g c = handed c.from_residual-in_err-answer-in-State.result c.in_err-answer-in-State.field-0.0 _ c.from_residual-in_err-answer-in-State.ensures.1 (inr refl)
+returns-in_err-answer-in-State-clause-err g c = handed c.from_residual-in_err-answer-in-State.result c.in_err-answer-in-State.field-0.0 _ c.from_residual-in_err-answer-in-State.ensures.1 (inr (record { is = refl; sees = sees_by_knowing c.args.self.now.pass c.see_all.new.pass c.see_all.ensures.knows }))
 
 pub returns-in_err-answer-in-Checkpoint-clause-err : goal.returns-in_err-answer-in-Checkpoint-clause-err
-returns-in_err-answer-in-Checkpoint-clause-err g c = handed c.from_residual-in_err-answer-in-Checkpoint.result c.in_err-answer-in-Checkpoint.field-0.0 _ c.from_residual-in_err-answer-in-Checkpoint.ensures.1 (inr refl)
+returns-in_err-answer-in-Checkpoint-clause-err g c = handed c.from_residual-in_err-answer-in-Checkpoint.result c.in_err-answer-in-Checkpoint.field-0.0 _ c.from_residual-in_err-answer-in-Checkpoint.ensures.1 (inr (record { is = refl; sees = sees_the_same c.args.self.now.pass }))

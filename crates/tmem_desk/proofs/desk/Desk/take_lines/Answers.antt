@@ -4,7 +4,7 @@ use Rattle.tmem_desk.specs.Held.{desk_view}
 use Rattle.tmem_desk.specs.Serving.{TakesShort}
 use Rattle.tmem_desk.proofs.Taking.{takes_none, takes_more, takes_all, short_text, long_text}
 use Rattle.tmem_desk.specs.Failing.{AnswersLine}
-use Rattle.tmem_desk.proofs.Losing.{answer_loses, handed, or_memory, part_more, some_part}
+use Rattle.tmem_desk.proofs.Losing.{handed, or_memory, part_answered}
 use Rattle.tmem_desk.proofs.desk.Desk.take_lines.Goals as goal
 
 pub loop-init : goal.loop-init
@@ -39,10 +39,10 @@ returns-in_err-take_line-in-Line-clause-err g c =
     let v = desk_view c.args.self.now in
     let mid = desk_view c.loop.self in
     let w = desk_view c.take_line.new.self in
-    let so = some_part s text c.loop.lines v mid (c.loop.invariant text stands) in
+    let so = c.loop.invariant text stands in
     let next = c.cut.ensures.line c.in-Line.is so.rest so.stands in
     or_memory c.in_err-take_line-in-Line.field-0.0
-    (λ a. part_more s text c.cut.new.self.line c.loop.lines c.cut.new.self v mid w so next.0 (answer_loses s c.cut.new.self.line mid w next.1 (subst (λ (t : List ℕ). AnswersLine s t mid w) c.line.ensures a)))
+    (λ a. part_answered s text c.cut.new.self.line c.loop.lines c.cut.new.self v mid w so next.0 next.1 (subst (λ (t : List ℕ). AnswersLine s t mid w) c.line.ensures a))
     c.in_err-take_line-in-Line.ensures.err)
 
 pub returns-in_err-take_long_line-in-TooLong-clause-err : goal.returns-in_err-take_long_line-in-TooLong-clause-err

@@ -1,4 +1,4 @@
-use Rattle.std.proofs.Common.{◌≡◌, ◌∙◌, ◌+◌, ℕ, ℤ, suc, subst, length, arith}
+use Rattle.std.proofs.Common.{◌≡◌, ◌+◌, ℕ, ℤ, suc, subst, length, arith}
 use Rattle.std.proofs.lemmas.List.{length-map}
 use Rattle.tmem_requests.specs.declared.request.RequestBody.{RequestBody}
 use Rattle.tmem_desk.specs.Asking.{store}
@@ -6,8 +6,7 @@ use Rattle.tmem_desk.specs.Held.{asked, asking, desk_view}
 use Rattle.tmem_desk.specs.Serving.{TriesNext}
 use Rattle.tmem_desk.specs.Steps.{Repeats}
 use Rattle.tmem_desk.proofs.StepLaws.{Repeats-push}
-use Rattle.tmem_desk.proofs.Losing.{handed, or_memory}
-use Rattle.tmem_desk.proofs.Counted.{repeated_due}
+use Rattle.tmem_desk.proofs.Losing.{goes_until, handed, or_memory, turns_until}
 use Rattle.tmem_desk.proofs.desk.Desk.try_each.Goals as goal
 
 pub loop-turn-preserved : goal.loop-turn-preserved
@@ -25,4 +24,4 @@ returns-clause-ok g c =
 pub returns-in_err-try_first-clause-err : goal.returns-in_err-try_first-clause-err
 returns-in_err-try_first-clause-err g c =
     handed c.from_residual.result c.in_err-try_first.field-0.0 _ c.from_residual.ensures.1
-    (or_memory c.in_err-try_first.field-0.0 (λ keeps among others. keeps among others ∙ repeated_due among others (store g.N.Naming.name.start g.N.StoreNaming.opening g.N.ProgramNaming.program g.N.ServedNaming.arities g.N.ServedNaming.always) c.loop-turn._turn (desk_view c.args.self.now) (desk_view c.loop-turn.self) c.loop-turn.invariant) c.in_err-try_first.ensures.err)
+    (or_memory c.in_err-try_first.field-0.0 (λ goes. turns_until (store g.N.Naming.name.start g.N.StoreNaming.opening g.N.ProgramNaming.program g.N.ServedNaming.arities g.N.ServedNaming.always) c.loop-turn._turn (desk_view c.args.self.now) (desk_view c.loop-turn.self) (desk_view c.try_first.new.self) c.loop-turn.invariant (goes_until (store g.N.Naming.name.start g.N.StoreNaming.opening g.N.ProgramNaming.program g.N.ServedNaming.arities g.N.ServedNaming.always) (desk_view c.loop-turn.self) (desk_view c.try_first.new.self) goes)) c.in_err-try_first.ensures.err)

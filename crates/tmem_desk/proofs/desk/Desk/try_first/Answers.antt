@@ -7,6 +7,7 @@ use Rattle.tmem_desk.specs.Held.{asked, asking, desk_view}
 use Rattle.tmem_desk.proofs.Waking.{none_first, answers_first, waits_again}
 use Rattle.tmem_fault.specs.declared.fault.Fault.TheVariants.{Memory}
 use Rattle.tmem_desk.proofs.Losing.{handed, memory_only, waits_behind}
+use Rattle.tmem_desk.proofs.Sight.{sees_by_knowing}
 use Rattle.tmem_desk.proofs.desk.Desk.try_first.Goals as goal
 
 pub returns-in_default-clause-ok : goal.returns-in_default-clause-ok
@@ -20,13 +21,13 @@ returns-in-Ok-Some-clause-ok g c =
     let fits : FitsSigned w64 c.in-Some.one.id = first_of (search (rules, c.pop_front.type_inv), search rules) in
     on_ok_weaker c.tell.result
     (answers_first (λ w. (w.id, asked w.held)) (store g.N.Naming.name.start g.N.StoreNaming.opening g.N.ProgramNaming.program g.N.ServedNaming.arities g.N.ServedNaming.always) c.in-Some.one c.args.self.now.waiting.items c.pop_front.new.self.items _ c.in-Ok-Some.answer (desk_view c.args.self.now) (desk_view c.tell.new.self) c.attempt.new.pass refl c.in-Some.ensures.items (to_z-of_z w64 c.in-Some.one.id fits)
-    (subst (λ (o : Option Answer). Tries (store g.N.Naming.name.start g.N.StoreNaming.opening g.N.ProgramNaming.program g.N.ServedNaming.arities g.N.ServedNaming.always) (asked c.in-Some.one.held) c.args.self.now.pass o c.attempt.new.pass) c.in-Ok-Some.field-0-is c.in-Ok-Some.ensures))
+    (subst (λ (o : Option Answer). Tries (store g.N.Naming.name.start g.N.StoreNaming.opening g.N.ProgramNaming.program g.N.ServedNaming.arities g.N.ServedNaming.always) (asked c.in-Some.one.held) c.args.self.now.pass o c.attempt.new.pass) c.in-Ok-Some.field-0-is c.in-Ok-Some.ensures.tries))
     c.tell.ensures.ok
 
 pub returns-in_ok-push_back-in-Ok-None-clause-ok : goal.returns-in_ok-push_back-in-Ok-None-clause-ok
 returns-in_ok-push_back-in-Ok-None-clause-ok g c =
     waits_again (λ w. (w.id, asked w.held)) (store g.N.Naming.name.start g.N.StoreNaming.opening g.N.ProgramNaming.program g.N.ServedNaming.arities g.N.ServedNaming.always) c.in-Some.one c.args.self.now.waiting.items c.pop_front.new.self.items c.push_back.new.self.items (desk_view c.args.self.now) _ c.attempt.new.pass refl c.in-Some.ensures.items
-    (subst (λ (o : Option Answer). Tries (store g.N.Naming.name.start g.N.StoreNaming.opening g.N.ProgramNaming.program g.N.ServedNaming.arities g.N.ServedNaming.always) (asked c.in-Some.one.held) c.args.self.now.pass o c.attempt.new.pass) c.in-Ok-None.field-0-is c.in-Ok-None.ensures) c.in_ok-push_back-in-Ok-None.ensures.items refl
+    (subst (λ (o : Option Answer). Tries (store g.N.Naming.name.start g.N.StoreNaming.opening g.N.ProgramNaming.program g.N.ServedNaming.arities g.N.ServedNaming.always) (asked c.in-Some.one.held) c.args.self.now.pass o c.attempt.new.pass) c.in-Ok-None.field-0-is c.in-Ok-None.ensures.tries) c.in_ok-push_back-in-Ok-None.ensures.items refl
 
 pub returns-in-Ok-Some-clause-err : goal.returns-in-Ok-Some-clause-err
 returns-in-Ok-Some-clause-err g c = memory_only _ c.tell.result c.tell.ensures.err
@@ -39,4 +40,4 @@ returns-in_err-push_back-in-Err-clause-err g c = handed c.from_residual-in_err-p
 
 pub returns-in_ok-push_back-in-Err-clause-err : goal.returns-in_ok-push_back-in-Err-clause-err
 returns-in_ok-push_back-in-Err-clause-err g c =
-    inr (waits_behind (λ w. (w.id, asked w.held)) c.in-Some.one c.args.self.now.waiting.items c.pop_front.new.self.items c.push_back-in-Err.new.self.items (desk_view c.args.self.now) _ c.attempt.new.pass refl c.in-Some.ensures.items c.in_ok-push_back-in-Err.ensures.items refl)
+    inr (waits_behind (λ w. (w.id, asked w.held)) c.in-Some.one c.args.self.now.waiting.items c.pop_front.new.self.items c.push_back-in-Err.new.self.items (desk_view c.args.self.now) _ c.attempt.new.pass refl c.in-Some.ensures.items c.in_ok-push_back-in-Err.ensures.items refl (sees_by_knowing c.args.self.now.pass c.attempt.new.pass c.in-Err.ensures.knows))

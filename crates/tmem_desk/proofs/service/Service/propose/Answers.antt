@@ -3,10 +3,13 @@ use Rattle.tmem_fault.specs.declared.fault.Fault.{Fault}
 use Rattle.tmem_tree.specs.declared.settled.Settled.{Settled}
 use Rattle.tmem_front.specs.Settling.{SettlesPass}
 use Rattle.tmem_front.proofs.Laws.{knows_still, settles_later}
+use Rattle.tmem_desk.specs.Asking.{store}
+use Rattle.tmem_desk.proofs.Losing.{handed}
+use Rattle.tmem_desk.proofs.Settled.{knows_again_elsewhere}
 use Rattle.tmem_desk.proofs.service.Service.propose.Goals as goal
 
-pub returns-in-Ok : goal.returns-in-Ok
-returns-in-Ok g c =
+pub returns-in-Ok-clause-settles : goal.returns-in-Ok-clause-settles
+returns-in-Ok-clause-settles g c =
     let settles =
     settles_later g.N.Naming.name.start g.N.StoreNaming.opening g.N.ProgramNaming.program c.in_ok-attempt.attempt c.args.pass.now c.loop.pass c.settle.result c.settle.new.pass c.loop.invariant c.settle.ensures.settled in
     record {
@@ -20,8 +23,8 @@ returns-in-Ok g c =
       end = c.told_ending_of.ensures.end;
     }
 
-pub returns-in-Err-Conflict : goal.returns-in-Err-Conflict
-returns-in-Err-Conflict g c =
+pub returns-in-Err-Conflict-clause-settles : goal.returns-in-Err-Conflict-clause-settles
+returns-in-Err-Conflict-clause-settles g c =
     let settles =
     settles_later g.N.Naming.name.start g.N.StoreNaming.opening g.N.ProgramNaming.program c.in_ok-attempt.attempt c.args.pass.now c.loop.pass c.settle.result c.settle.new.pass c.loop.invariant c.settle.ensures.settled in
     record {
@@ -35,3 +38,8 @@ returns-in-Err-Conflict g c =
       tells = (cc, refl);
       end = tt;
     }
+
+pub returns-in_err-flush_with_room-in-Err-Full-clause-knows : goal.returns-in_err-flush_with_room-in-Err-Full-clause-knows
+returns-in_err-flush_with_room-in-Err-Full-clause-knows g c =
+    handed c.from_residual-in_err-flush_with_room-in-Err-Full.result c.in_err-flush_with_room-in-Err-Full.field-0.0 _ c.from_residual-in_err-flush_with_room-in-Err-Full.ensures.1
+    (knows_again_elsewhere (store g.N.Naming.name.start g.N.StoreNaming.opening g.N.ProgramNaming.program g.N.ServedNaming.arities g.N.ServedNaming.always) c.in_ok-attempt.attempt c.args.pass.now c.loop.pass c.settle.new.pass c.settle.result c.in-Err-Full.field-0 c.loop.invariant c.settle.ensures.settled c.in-Err-Full.is)

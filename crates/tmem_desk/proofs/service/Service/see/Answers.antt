@@ -2,8 +2,8 @@ use Rattle.std.proofs.Common.{◌≡◌, ℕ, ℤ, map}
 use Rattle.tmem_desk.proofs.Seen.{some_values}
 use Rattle.tmem_desk.proofs.service.Service.see.Goals as goal
 
-pub returns : goal.returns
-returns g c =
+pub returns-clause-sees : goal.returns-clause-sees
+returns-clause-sees g c =
     let these : map (λ (p : ℕ × ℤ). p.1) c.in_ok-pairs.pairs.items ≡ c.in_ok-count.field-0.values.items = cc (c.in_ok-pairs.ensures.values, c.deref.ensures.value, c.in_ok-count.values-is) in
     record {
       knows = c.moment.ensures.knows;

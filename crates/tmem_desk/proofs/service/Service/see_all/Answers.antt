@@ -8,8 +8,8 @@ use Rattle.tmem_desk.specs.Held.{first_numbers}
 use Rattle.tmem_desk.proofs.Seen.{all_values}
 use Rattle.tmem_desk.proofs.service.Service.see_all.Goals as goal
 
-pub returns : goal.returns
-returns g c =
+pub returns-clause-answers : goal.returns-clause-answers
+returns-clause-answers g c =
     let known : List ℤ = (state_after_history g.N.StoreNaming.opening c.moment.new.pass.known).values in
     let has : List ℕ → Bool = λ (name : List ℕ). has_name (state_after_history g.N.StoreNaming.opening c.moment.new.pass.known).names name in
     let vars : c.deref.result.now ≡ first_numbers c.args.self.now.vars = cc (c.deref.ensures.value, c.in_ok-vars.ensures) in
