@@ -3,14 +3,15 @@
 //! Nothing that the program does rests on it. What has a path is looked at once more, so it is told how that stands now. Only a file or,
 //! where it may be a store, a block device is read again: what came out of a pipe is gone, and to open one may wait for ever.
 
-use crate::bench::STORE;
 use crate::failure::StoreFailure;
-use crate::init::text_in;
+use crate::found::{
+    begins_as_store, has_no_bytes, is_block_device, is_damaged, is_store, is_store_empty,
+    is_whole_store, shape_beside, store_of, text_again,
+};
 use std::alloc::Global;
 use std::fmt::Display;
-use std::fs::{self, File, Files};
+use std::fs::{File, Files};
 use std::io::{self, Write};
-use std::os::unix::fs::FileTypeExt;
 use tmem_args::Asked;
 use tmem_desk::DeskFailure;
 use tmem_explain::{
@@ -77,7 +78,7 @@ const NO_COPY: &str =
     "only if a store was there and is gone, put a copy there (what the copy lacks is lost)";
 
 const ON_A_DEVICE: &str =
-    "it is a block device: copy its bytes to a file instead of moving it away, and write a copy onto it (dd)";
+    "it is a block device: copy its bytes to a file instead of moving it away, and then write the older copy onto it (dd)";
 
 const UNSEEN: &str = "what is there could not be looked at";
 
@@ -252,7 +253,7 @@ fn explain_store_failure<E: Write>(
     }
 }
 
-// Tells how a copy gets to its place, where a store was wanted and that is a block device.
+// Tells how a copy gets to its place, where its bytes are refused as those of a store and that is a block device.
 fn tell_device_too<E: Write>(
     rt: &(impl Files<File = File> + AllocGlobal),
     asked: Asked,
@@ -260,18 +261,13 @@ fn tell_device_too<E: Write>(
     err: &mut E,
 ) -> io::Result<()> {
     match fault {
-        Fault::NotFormatted
-        | Fault::Damaged
-        | Fault::Missing(_)
-        | Fault::Broken(_)
-        | Fault::Spent
-        | Fault::Geometry
+        Fault::NotFormatted | Fault::Damaged | Fault::Missing(_) | Fault::Broken(_) | Fault::Spent
             if !matches!(asked, Asked::Init(_)) => tell_block(rt, asked, err),
         _ => Ok(()),
     }
 }
 
-// The same, whatever was wanted.
+// The same, whatever is refused.
 fn tell_block<E: Write>(
     rt: &(impl Files<File = File> + AllocGlobal),
     asked: Asked,
@@ -300,12 +296,11 @@ fn tell_store<E: Write>(
     asked: Asked,
     err: &mut E,
 ) -> io::Result<()> {
-    let text = if is_whole_store(rt, asked) {
-        A_STORE
-    } else {
-        CUT_STORE
-    };
-    tell_of(err, asked, text)
+    if is_whole_store(rt, asked) {
+        return tell_of(err, asked, A_STORE);
+    }
+    tell_of(err, asked, CUT_STORE)?;
+    tell_block(rt, asked, err)
 }
 
 // Tells what is there where a store was to be made and none is.
@@ -381,91 +376,6 @@ fn tell_of_shape<E: Write>(
             tell(err, format_args!("{path}: {CUT_OFF}; {NO_SHAPE}"))
         }
         _ => tell(err, format_args!("{path}: {NO_SHAPE}")),
-    }
-}
-
-// The text in a file, which was read before. None where that was no file: a pipe would be empty now, or waited for.
-fn text_again(rt: &(impl Files<File = File> + AllocGlobal), path: &str) -> Option<Vec<u8>> {
-    match fs::metadata(rt, path) {
-        Ok(found) if found.is_file() => text_in(rt, path).ok(),
-        _ => None,
-    }
-}
-
-// Whether what is to become a store is one already.
-fn is_store(rt: &(impl Files<File = File> + AllocGlobal), asked: Asked) -> bool {
-    match store_of(asked) {
-        Some((path, _)) => begins_as_store(rt, path),
-        None => false,
-    }
-}
-
-// Whether an opening refuses its bytes as those of a store that something changed, or that a later version wrote.
-fn is_damaged(rt: &(impl Files<File = File> + AllocGlobal), asked: Asked) -> bool {
-    let Some((path, _)) = store_of(asked) else {
-        return false;
-    };
-    let Ok(source) = Source::read(rt, path) else {
-        return false;
-    };
-    match refusal_of(rt.alloc(), &source) {
-        Ok(Some(refusal)) => matches!(refusal.fault, Fault::Damaged),
-        _ => false,
-    }
-}
-
-// Whether what is to become a store is one that was not cut off.
-fn is_whole_store(rt: &(impl Files<File = File> + AllocGlobal), asked: Asked) -> bool {
-    let Some((path, _)) = store_of(asked) else {
-        return false;
-    };
-    let Ok(source) = Source::read(rt, path) else {
-        return false;
-    };
-    match block_of(&source.bytes) {
-        Ok(block) => source.size >= block.layout.end(),
-        Err(_) => false,
-    }
-}
-
-// Whether what has a path begins as a store does.
-fn begins_as_store(rt: &(impl Files<File = File> + AllocGlobal), path: &str) -> bool {
-    match Source::read(rt, path) {
-        Ok(source) => block_of(&source.bytes).is_ok(),
-        Err(_) => false,
-    }
-}
-
-// Whether an empty file has the path of a store that was to be there. (One on which a store is to be made is only too short.)
-fn is_store_empty(rt: &(impl Files<File = File> + AllocGlobal), asked: Asked) -> bool {
-    match (asked, store_of(asked)) {
-        (Asked::Init(_), _) | (_, None) => false,
-        (_, Some((path, _))) => match Source::read(rt, path) {
-            Ok(source) => source.size == 0,
-            Err(_) => false,
-        },
-    }
-}
-
-// Whether a block device has the path of the store.
-fn is_block_device(rt: &(impl Files<File = File> + AllocGlobal), asked: Asked) -> bool {
-    let Some((path, _)) = store_of(asked) else {
-        return false;
-    };
-    match fs::metadata(rt, path) {
-        Ok(found) => found.file_type().is_block_device(),
-        Err(_) => false,
-    }
-}
-
-// Whether that is a block device of no bytes.
-fn has_no_bytes(rt: &(impl Files<File = File> + AllocGlobal), asked: Asked) -> bool {
-    let Some((path, _)) = store_of(asked) else {
-        return false;
-    };
-    match Source::read(rt, path) {
-        Ok(source) => source.size == 0 && is_block_device(rt, asked),
-        Err(_) => false,
     }
 }
 
@@ -607,12 +517,23 @@ fn tell_geometry<E: Write>(
         return tell_cut_off(rt, asked, err);
     };
     match Layout::new(vars, slots) {
-        Ok(layout) => match found_in(rt, asked, layout) {
-            Some(help) => tell_of(err, asked, help),
-            None => tell_of(err, asked, FaultHelp(Fault::Geometry)),
-        },
+        Ok(layout) => tell_layout(rt, asked, layout, err),
         Err(_) => tell(err, NumbersHelp::Limits { vars, slots }),
     }
+}
+
+// Tells why there is no store of this layout, or why no new one is put there.
+fn tell_layout<E: Write>(
+    rt: &(impl Files<File = File> + AllocGlobal),
+    asked: Asked,
+    layout: Layout,
+    err: &mut E,
+) -> io::Result<()> {
+    match found_in(rt, asked, layout) {
+        Some(help) => tell_of(err, asked, help)?,
+        None => tell_of(err, asked, FaultHelp(Fault::Geometry))?,
+    }
+    tell_block(rt, asked, err)
 }
 
 // Tells where a store ends too soon of which no numbers were asked, or none that are known still, and of a new one that it has no room.
@@ -622,14 +543,16 @@ fn tell_cut_off<E: Write>(
     err: &mut E,
 ) -> io::Result<()> {
     if let Asked::Init(_) = asked {
-        return tell_of(err, asked, TOO_SHORT);
+        tell_of(err, asked, TOO_SHORT)?;
+        return tell_block(rt, asked, err);
     }
     if let Some((path, _)) = store_of(asked) {
         if tell_bytes(rt, path, shows(asked), err)? {
-            return Ok(());
+            return tell_block(rt, asked, err);
         }
     }
-    tell_of(err, asked, FaultHelp(Fault::Geometry))
+    tell_of(err, asked, FaultHelp(Fault::Geometry))?;
+    tell_block(rt, asked, err)
 }
 
 // The numbers that were asked for, by a script or a shape.
@@ -666,7 +589,7 @@ fn numbers_of_shape(
     }
 }
 
-// Why there is no store of this layout in a file, or why no new one is put there.
+// The same, where its numbers or its bytes show it.
 fn found_in(
     rt: &(impl Files<File = File> + AllocGlobal),
     asked: Asked,
@@ -685,25 +608,6 @@ fn found_in(
         Err(_) => None,
     };
     NumbersHelp::of_store(layout, had, source.size)
-}
-
-// The path of the store, and what was to have it.
-fn store_of<'a>(asked: Asked<'a>) -> Option<(&'a str, Wanted)> {
-    match asked {
-        Asked::Run(paths) => Some((paths.disk?, Wanted::FoundOrMade)),
-        Asked::Threads(counting) => Some((counting.disk?, Wanted::Made)),
-        Asked::Bench(timing) => Some((timing.disk.unwrap_or(STORE), Wanted::Made)),
-        Asked::Show(showing) => Some((showing.store?, Wanted::Read)),
-        Asked::Init(making) if making.is_in_place => Some((making.store?, Wanted::Found)),
-        Asked::Init(making) => Some((making.store?, Wanted::FoundOrMade)),
-        Asked::Serve(serving) => Some((serving.store?, Wanted::Found)),
-        Asked::Check(_) => None,
-    }
-}
-
-// The path of the shape beside a store.
-fn shape_beside(alloc: Global, store: &str) -> Result<String, StoreFailure> {
-    Ok(format!(in alloc; "{store}.json")?)
 }
 
 // Tells of each entry that was refused what its fault means, of a transaction which node breaks a limit, and of a call which cause. Then

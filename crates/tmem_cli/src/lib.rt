@@ -10,6 +10,7 @@ mod check;
 mod count;
 mod explain;
 mod failure;
+mod found;
 mod init;
 mod serve;
 mod show;

@@ -70,7 +70,7 @@ call_help call.NoRoom = codes "there is no room on its file system, or no quota 
 call_help call.LongName = codes "the path or its last part is too long; name one whose last part has at most 250 bytes, for init 245 (STORE.json)"
 call_help call.Limit = codes "this process may not write a file so long (ulimit -f); raise that limit, and run the program again"
 call_help call.Circle = codes "links on this path lead in a circle; mend them, or name the file"
-call_help call.DiskError = codes "the disk reports an error (EIO); look into the system's log (dmesg); copy a file that was there to another disk by cp, which skips nothing, and only if that fails, or tmem show finds the copy not whole, use an older one (what that lacks is lost); only a file that was not there yet, make on another disk"
+call_help call.DiskError = codes "the disk reports an error (EIO); look into the system's log (dmesg); copy a file that was there to another disk by cp, which skips nothing, and only if that fails, or tmem show finds the copy not whole, use an older one (what that lacks is lost); make a new file on another disk only if there was none"
 call_help call.Other = codes "a call on it failed, for a reason that this look does not show; look at its rights, at room (df), at limits (ulimit -f, ulimit -n), whether the device is read-only, and into the system's log (dmesg)"
 
 -- why a file could not be used, and what to do
@@ -83,11 +83,11 @@ device_help cause.Missing = codes "nothing has this path; check it, and that its
 device_help cause.DeadLink = codes "it is a link to nothing; look whether the disk that it leads to is mounted (findmnt), mend the link, or name a file"
 device_help cause.There = codes "something has this path, and a new file was to be made; name another path"
 device_help cause.NameInDoubt = codes "it has a second name, as a new file has (PATH.new0) until its folder is synced; if it may have been there before, name another path, and remove nothing; only if it surely was not, this run made it, and that sync failed: look into the system's log (dmesg), and then remove both names"
-device_help cause.MissingFolder = codes "its folder is not there; check the path, and that its disk is mounted (findmnt); make it only for a new file"
+device_help cause.MissingFolder = codes "its folder is not there; check the path, and that its disk is mounted (findmnt); make the folder only for a new file"
 device_help cause.NoFolder = codes "a part of this path, or of a link on it, is used as a folder and is none; check the path"
 device_help cause.Slash = codes "it ends in /, as the path of a folder does; name a file"
 device_help cause.ClosedFolder = codes "this user may not make a file in its folder, or not read it, as its sync needs; change the folder's rights or attributes (lsattr), or name a path in another"
 device_help cause.NoLinks = codes "its file system makes no hard links, by which a new file gets its name; name a path on another"
 device_help cause.NoBytes = codes "the device has 0 bytes; look whether anything is attached to it"
-device_help cause.SecondName = codes "it has a second name, as a new file NAME (readlink -f tells it) has NAME.new0 until its folder is synced, and this user cannot sync its folder; let this user read the folder, and try again; or let one who may read it do the sync (sync FOLDER), and then remove NAME.new0, never NAME, and only if ls -i shows the same number for both (find FOLDER -samefile NAME tells other names); if the sync fails, too, look into the system's log (dmesg)"
+device_help cause.SecondName = codes "it has a second name, as a new file NAME (readlink -f tells it) has NAME.new0 until its folder is synced, and that sync failed; if this user may not read the folder, change that, or let one who may do it (sync FOLDER), and then remove NAME.new0, never NAME, and only if ls -i shows the same number for both (find FOLDER -samefile NAME tells other names); if it fails otherwise, look into the system's log (dmesg)"
 device_help (cause.Call c) = call_help c

@@ -11,7 +11,7 @@ use Rattle.tmem_explain.specs.declared.numbers.NumbersHelp.TheVariants as number
 -- what went wrong, and what to do
 abbrev pub fault_help : Fault → List ℕ
 fault_help fault.Memory = codes "memory did not suffice, or no thread could be started; give the program more (ulimit -v, ulimit -u), or ask for less"
-fault_help fault.Device = codes "a call on the file failed, or an earlier one whose end is unknown keeps it closed in this process; look at its rights, at room (df), at limits (ulimit -f, ulimit -n), whether the device is read-only, and into the system's log (dmesg); then open the store again, and see what it has before anything is repeated"
+fault_help fault.Device = codes "a call on the file failed, or a sync of it failed before, and this process makes none any more; look at its rights, at room (df), at limits (ulimit -f, ulimit -n), whether the device is read-only, and into the system's log (dmesg); then open the store again, and see what it has before anything is repeated"
 fault_help fault.Closed = codes "an earlier failure has closed the store: a call on its file failed, or it could not be opened again; mend that, open the store again, and see what it has before anything is repeated"
 fault_help fault.Unknown =
     codes "a write or sync failed; of a flush, all of the batch is durable, or none of it; a checkpoint puts no transaction in doubt; repeat nothing yet: open the store again, after an error of the disk (dmesg) once the machine was started anew, and see how many transactions there are"
@@ -22,16 +22,16 @@ fault_help fault.NotFormatted = codes "this does not begin as a store; check the
 fault_help fault.Damaged =
     codes "the file is not as tmem leaves one: something else changed it, or a later version of tmem wrote it; run that version, or else move the file away and put a copy in its place (nothing repairs it, and what the copy lacks is lost)"
 fault_help (fault.Missing name) =
-    codes "the invariant " ++ name ++ codes " is registered in the store, and this program or shape has none of this name; check both paths; if they are the ones, open the store with the program or shape that used it last, as that was then; only if that had none of this name, too, something changed the file: move it away, and put a copy in its place (what the copy lacks is lost)"
+    codes "the invariant " ++ name ++ codes " is registered in the store, and this program or shape has none of this name; check the paths of the store and of the shape or script; if they are the ones, open the store with the program or shape that used it last, as that was then; only if that had none of this name, too, something changed the file: move it away, and put a copy in its place (what the copy lacks is lost)"
 fault_help (fault.Broken name) =
-    codes "the invariant " ++ name ++ codes " is registered in the store, and as this program or shape means it, it is false of the store's values; check both paths; if they are the ones, compare what it means here with what it meant in the program or shape that used the store last, as that was then; if that differs, open the store with that one; only if not, something changed the file: move it away, and put a copy in its place (what the copy lacks is lost)"
+    codes "the invariant " ++ name ++ codes " is registered in the store, and as this program or shape means it, it is false of the store's values; check the paths of the store and of the shape or script; if they are the ones, compare what it means here with what it meant in the program or shape that used the store last, as that was then; if that differs, open the store with that one; only if not, something changed the file: move it away, and put a copy in its place (what the copy lacks is lost)"
 fault_help (fault.BadPlan c) = cause_text c ++ codes "; change the transaction"
 fault_help fault.BadName = codes "a name is not 1 to 16 letters from a to z, or stands twice, or there are more than 64; change the program"
 fault_help fault.BadFootprint = codes "an invariant is over no variable, over more than 16, over one twice, or over one that the store lacks (they count from 0); correct that invariant"
-fault_help fault.Spent = codes "the count of transactions or of images is at 2^64 - 1, to which no use comes, so something changed the file; move it away, and put a copy in its place (what the copy lacks is lost)"
+fault_help fault.Spent = codes "the count of transactions or of images is at 2^64 - 1, to which no use comes, so something changed the file; see what it has (tmem show PATH); then move it away, and put a copy in its place (what the copy lacks is lost)"
 fault_help fault.NoSeat = codes "all 32 passes were given out, and one that was dropped is lost until the store is opened again; keep passes, or share them: acquire_pass lends one, and release_pass hands it back"
 fault_help fault.Geometry =
-    codes "the numbers of variables and log slots that were asked for are out of limits (1 to 1024, 2 to 64) or not the store's own, or its file was cut off; state those that tmem show PATH prints, or put a copy of the file in its place"
+    codes "the numbers of variables and log slots that were asked for are out of limits (1 to 1024, 2 to 64) or not the store's own, or its file was cut off; check the paths; use the shape or script that the store was made with (tmem show PATH prints the store's numbers); if these are the same, move the file away, and put a copy in its place (what the copy lacks is lost)"
 
 -- what to do where an opening refuses bytes by a fault: whether no store is so short, and whether they were read without a lock
 abbrev help_of : Fault → Bool → Bool → List ℕ

@@ -111,7 +111,7 @@ impl fmt::Display for CallCause {
                 "this process may not write a file so long (ulimit -f); raise that limit, and run the program again",
             CallCause::Circle => "links on this path lead in a circle; mend them, or name the file",
             CallCause::DiskError =>
-                "the disk reports an error (EIO); look into the system's log (dmesg); copy a file that was there to another disk by cp, which skips nothing, and only if that fails, or tmem show finds the copy not whole, use an older one (what that lacks is lost); only a file that was not there yet, make on another disk",
+                "the disk reports an error (EIO); look into the system's log (dmesg); copy a file that was there to another disk by cp, which skips nothing, and only if that fails, or tmem show finds the copy not whole, use an older one (what that lacks is lost); make a new file on another disk only if there was none",
             CallCause::Other =>
                 "a call on it failed, for a reason that this look does not show; look at its rights, at room (df), at limits (ulimit -f, ulimit -n), whether the device is read-only, and into the system's log (dmesg)",
         })
@@ -140,7 +140,7 @@ impl fmt::Display for DeviceCause {
             DeviceCause::NameInDoubt =>
                 "it has a second name, as a new file has (PATH.new0) until its folder is synced; if it may have been there before, name another path, and remove nothing; only if it surely was not, this run made it, and that sync failed: look into the system's log (dmesg), and then remove both names",
             DeviceCause::MissingFolder =>
-                "its folder is not there; check the path, and that its disk is mounted (findmnt); make it only for a new file",
+                "its folder is not there; check the path, and that its disk is mounted (findmnt); make the folder only for a new file",
             DeviceCause::NoFolder =>
                 "a part of this path, or of a link on it, is used as a folder and is none; check the path",
             DeviceCause::Slash => "it ends in /, as the path of a folder does; name a file",
@@ -151,7 +151,7 @@ impl fmt::Display for DeviceCause {
             DeviceCause::NoBytes =>
                 "the device has 0 bytes; look whether anything is attached to it",
             DeviceCause::SecondName =>
-                "it has a second name, as a new file NAME (readlink -f tells it) has NAME.new0 until its folder is synced, and this user cannot sync its folder; let this user read the folder, and try again; or let one who may read it do the sync (sync FOLDER), and then remove NAME.new0, never NAME, and only if ls -i shows the same number for both (find FOLDER -samefile NAME tells other names); if the sync fails, too, look into the system's log (dmesg)",
+                "it has a second name, as a new file NAME (readlink -f tells it) has NAME.new0 until its folder is synced, and that sync failed; if this user may not read the folder, change that, or let one who may do it (sync FOLDER), and then remove NAME.new0, never NAME, and only if ls -i shows the same number for both (find FOLDER -samefile NAME tells other names); if it fails otherwise, look into the system's log (dmesg)",
             DeviceCause::Call(cause) => return write!(f, "{cause}"),
         };
         f.write_str(text)

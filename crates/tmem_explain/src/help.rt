@@ -21,7 +21,7 @@ impl fmt::Display for FaultHelp {
             ),
             Fault::Device => write!(
                 f,
-                "a call on the file failed, or an earlier one whose end is unknown keeps it closed in this process; look at its rights, at room (df), at limits (ulimit -f, ulimit -n), whether the device is read-only, and into the system's log (dmesg); then open the store again, and see what it has before anything is repeated"
+                "a call on the file failed, or a sync of it failed before, and this process makes none any more; look at its rights, at room (df), at limits (ulimit -f, ulimit -n), whether the device is read-only, and into the system's log (dmesg); then open the store again, and see what it has before anything is repeated"
             ),
             Fault::Closed => write!(
                 f,
@@ -53,11 +53,11 @@ impl fmt::Display for FaultHelp {
             ),
             Fault::Missing(name) => write!(
                 f,
-                "the invariant {name} is registered in the store, and this program or shape has none of this name; check both paths; if they are the ones, open the store with the program or shape that used it last, as that was then; only if that had none of this name, too, something changed the file: move it away, and put a copy in its place (what the copy lacks is lost)"
+                "the invariant {name} is registered in the store, and this program or shape has none of this name; check the paths of the store and of the shape or script; if they are the ones, open the store with the program or shape that used it last, as that was then; only if that had none of this name, too, something changed the file: move it away, and put a copy in its place (what the copy lacks is lost)"
             ),
             Fault::Broken(name) => write!(
                 f,
-                "the invariant {name} is registered in the store, and as this program or shape means it, it is false of the store's values; check both paths; if they are the ones, compare what it means here with what it meant in the program or shape that used the store last, as that was then; if that differs, open the store with that one; only if not, something changed the file: move it away, and put a copy in its place (what the copy lacks is lost)"
+                "the invariant {name} is registered in the store, and as this program or shape means it, it is false of the store's values; check the paths of the store and of the shape or script; if they are the ones, compare what it means here with what it meant in the program or shape that used the store last, as that was then; if that differs, open the store with that one; only if not, something changed the file: move it away, and put a copy in its place (what the copy lacks is lost)"
             ),
             Fault::BadPlan(cause) => write!(f, "{}; change the transaction", words_of(*cause)),
             Fault::BadName => write!(
@@ -70,7 +70,7 @@ impl fmt::Display for FaultHelp {
             ),
             Fault::Spent => write!(
                 f,
-                "the count of transactions or of images is at 2^64 - 1, to which no use comes, so something changed the file; move it away, and put a copy in its place (what the copy lacks is lost)"
+                "the count of transactions or of images is at 2^64 - 1, to which no use comes, so something changed the file; see what it has (tmem show PATH); then move it away, and put a copy in its place (what the copy lacks is lost)"
             ),
             Fault::NoSeat => write!(
                 f,
@@ -78,7 +78,7 @@ impl fmt::Display for FaultHelp {
             ),
             Fault::Geometry => write!(
                 f,
-                "the numbers of variables and log slots that were asked for are out of limits (1 to 1024, 2 to 64) or not the store's own, or its file was cut off; state those that tmem show PATH prints, or put a copy of the file in its place"
+                "the numbers of variables and log slots that were asked for are out of limits (1 to 1024, 2 to 64) or not the store's own, or its file was cut off; check the paths; use the shape or script that the store was made with (tmem show PATH prints the store's numbers); if these are the same, move the file away, and put a copy in its place (what the copy lacks is lost)"
             ),
         }
     }

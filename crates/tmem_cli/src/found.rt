@@ -1,0 +1,119 @@
+//! What has the path of a store, or of a shape, as it is now.
+use crate::bench::STORE;
+use crate::failure::StoreFailure;
+use crate::init::text_in;
+use std::alloc::Global;
+use std::fs::{self, File, Files};
+use std::os::unix::fs::FileTypeExt;
+use tmem_args::Asked;
+use tmem_explain::Wanted;
+use tmem_fault::Fault;
+use tmem_parts::block_of;
+use tmem_show::{Source, refusal_of};
+
+/// The text in a file, which was read before. None where that was no file: a pipe would be empty now, or waited for.
+pub(crate) fn text_again(
+    rt: &(impl Files<File = File> + AllocGlobal),
+    path: &str,
+) -> Option<Vec<u8>> {
+    match fs::metadata(rt, path) {
+        Ok(found) if found.is_file() => text_in(rt, path).ok(),
+        _ => None,
+    }
+}
+
+/// Whether what is to become a store is one already.
+pub(crate) fn is_store(rt: &(impl Files<File = File> + AllocGlobal), asked: Asked) -> bool {
+    match store_of(asked) {
+        Some((path, _)) => begins_as_store(rt, path),
+        None => false,
+    }
+}
+
+/// Whether an opening refuses what is there as a store that something changed, or that a later version wrote.
+pub(crate) fn is_damaged(rt: &(impl Files<File = File> + AllocGlobal), asked: Asked) -> bool {
+    let Some((path, _)) = store_of(asked) else {
+        return false;
+    };
+    let Ok(source) = Source::read(rt, path) else {
+        return false;
+    };
+    match refusal_of(rt.alloc(), &source) {
+        Ok(Some(refusal)) => matches!(refusal.fault, Fault::Damaged),
+        _ => false,
+    }
+}
+
+/// Whether what is to become a store is one that was not cut off.
+pub(crate) fn is_whole_store(rt: &(impl Files<File = File> + AllocGlobal), asked: Asked) -> bool {
+    let Some((path, _)) = store_of(asked) else {
+        return false;
+    };
+    let Ok(source) = Source::read(rt, path) else {
+        return false;
+    };
+    match block_of(&source.bytes) {
+        Ok(block) => source.size >= block.layout.end(),
+        Err(_) => false,
+    }
+}
+
+/// Whether what has a path begins as a store does.
+pub(crate) fn begins_as_store(rt: &(impl Files<File = File> + AllocGlobal), path: &str) -> bool {
+    match Source::read(rt, path) {
+        Ok(source) => block_of(&source.bytes).is_ok(),
+        Err(_) => false,
+    }
+}
+
+/// Whether an empty file has the path of a store that was to be there. (One on which a store is to be made is only too short.)
+pub(crate) fn is_store_empty(rt: &(impl Files<File = File> + AllocGlobal), asked: Asked) -> bool {
+    match (asked, store_of(asked)) {
+        (Asked::Init(_), _) | (_, None) => false,
+        (_, Some((path, _))) => match Source::read(rt, path) {
+            Ok(source) => source.size == 0,
+            Err(_) => false,
+        },
+    }
+}
+
+/// Whether a block device has the path of the store.
+pub(crate) fn is_block_device(rt: &(impl Files<File = File> + AllocGlobal), asked: Asked) -> bool {
+    let Some((path, _)) = store_of(asked) else {
+        return false;
+    };
+    match fs::metadata(rt, path) {
+        Ok(found) => found.file_type().is_block_device(),
+        Err(_) => false,
+    }
+}
+
+/// Whether that is a block device of no bytes.
+pub(crate) fn has_no_bytes(rt: &(impl Files<File = File> + AllocGlobal), asked: Asked) -> bool {
+    let Some((path, _)) = store_of(asked) else {
+        return false;
+    };
+    match Source::read(rt, path) {
+        Ok(source) => source.size == 0 && is_block_device(rt, asked),
+        Err(_) => false,
+    }
+}
+
+/// The path of the store, and what was to have it.
+pub(crate) fn store_of<'a>(asked: Asked<'a>) -> Option<(&'a str, Wanted)> {
+    match asked {
+        Asked::Run(paths) => Some((paths.disk?, Wanted::FoundOrMade)),
+        Asked::Threads(counting) => Some((counting.disk?, Wanted::Made)),
+        Asked::Bench(timing) => Some((timing.disk.unwrap_or(STORE), Wanted::Made)),
+        Asked::Show(showing) => Some((showing.store?, Wanted::Read)),
+        Asked::Init(making) if making.is_in_place => Some((making.store?, Wanted::Found)),
+        Asked::Init(making) => Some((making.store?, Wanted::FoundOrMade)),
+        Asked::Serve(serving) => Some((serving.store?, Wanted::Found)),
+        Asked::Check(_) => None,
+    }
+}
+
+/// The path of the shape beside a store.
+pub(crate) fn shape_beside(alloc: Global, store: &str) -> Result<String, StoreFailure> {
+    Ok(format!(in alloc; "{store}.json")?)
+}
