@@ -1,5 +1,5 @@
 -- What is printed where serving ends early.
-use Rattle.std.proofs.Common.{◌≡◌, ◌⊎◌, inl, inr, ℕ, Bool, true, false, List, [], get_or, map, Option, Some, None, refl, ap, sym, ◌∙◌, subst}
+use Rattle.std.proofs.Common.{◌≡◌, ◌≢◌, ◌⊎◌, inl, inr, ℕ, Bool, true, false, List, [], get_or, map, Option, Some, None, refl, ap, sym, subst}
 use Rattle.std.specs.Prelude.{All, IfSome, IsNone, if◌then◌else◌}
 use Rattle.std.specs.Io.KnownBytes.{Appends}
 use Rattle.std.proofs.lemmas.List.{append-nil}
@@ -9,7 +9,7 @@ use Rattle.tmem_fault.specs.declared.fault.Fault.TheVariants.{Memory}
 use Rattle.tmem_requests.specs.declared.answer.Answer.{Answer}
 use Rattle.tmem_requests.specs.declared.answer.Answer.TheVariants as answer
 use Rattle.tmem_desk.specs.Failing.{EndsBy}
-use Rattle.tmem_desk.specs.Told.{TellsFault, TellsOnly, TellsWithin, last_answer, rests_within, told_last}
+use Rattle.tmem_desk.specs.Told.{TellsOnly, TellsWithin, last_answer, rests_within, told_last}
 use Rattle.tmem_desk.specs.declared.failure.DeskFailure.{DeskFailure}
 use Rattle.tmem_desk.specs.declared.failure.DeskFailure.TheVariants.{Output}
 use Rattle.tmem_desk.specs.declared.failure.DeskFailure.TheVariants as failure
@@ -62,19 +62,13 @@ within_last (Some m) n fault all counts =
     subst (λ (k : ℕ). All (TellsWithin n fault) (map (told_last (Some k) fault) all)) (sym counts)
     (All-map (TellsWithin n fault) (told_last (Some n) fault) all (each_of all (within_one n fault)))
 
--- what tells of a fault, tells at last of this one
-fault_last : (d : Option ℕ) (fault : Fault) (t : Told) → TellsFault t → TellsOnly fault (told_last d fault t)
-fault_last d fault (told.Answer a) is = ap (last_answer d fault) is.1 ∙ none d
-  where
-    none : (o : Option ℕ) → last_answer o fault (answer.Fault is.0) ≡ answer.Fault fault
-    none None = refl
-    none (Some n) = refl
-fault_last d fault (told.NoRequest n) is = tt
-
-pub faults_last : (d : Option ℕ) (fault : Fault) (all : List Told) → All TellsFault all → All (TellsOnly fault) (map (told_last d fault) all)
-faults_last d fault all are = All-map (TellsOnly fault) (told_last d fault) all (All-weaker TellsFault (λ (t : Told). TellsOnly fault (told_last d fault t)) (fault_last d fault) all are)
-
 -- memory did not suffice, or so many are durable, and then this holds
 pub unless_memory : {P : Type 0} (d : Option ℕ) (fault : Fault) (n : ℕ) → (IsNone d → fault ≡ Memory) → IfSome d (λ m. m ≡ n) → (d ≡ Some n → P) → (fault ≡ Memory) ⊎ P
 unless_memory None fault n memory counts more = inl (memory refl)
 unless_memory (Some m) fault n memory counts more = inr (more (ap Some counts))
+
+-- it is another fault where so many are durable
+pub no_memory : (d : Option ℕ) (fault : Fault) (n : ℕ) → (fault ≡ Memory → d ≡ None) → d ≡ Some n → fault ≢ Memory
+no_memory d fault n memory durable wanting =
+    let none : d ≡ None = memory wanting in
+    cc

@@ -1,5 +1,5 @@
 -- What is told tells of nothing but what the pass knows by then.
-use Rattle.std.proofs.Common.{◌≡◌, ◌≢◌, ◌⊎◌, ⊎_elim, ℕ, zero, suc, ℤ, ◌≤◌, max, Bool, true, false, cond, ◌||◌, nat_le, nat_lt, ◌-◌, ◌==◌, List, [], ◌∷◌, ◌++◌, length, map, Option, Some, None, Result, Ok, Err, IfOk, refl, ap, sym, subst, arith, length-append}
+use Rattle.std.proofs.Common.{◌≡◌, ◌≢◌, ◌⊎◌, ⊎_elim, ℕ, zero, suc, ℤ, ◌≤◌, max, Bool, true, false, cond, ◌||◌, nat_le, nat_lt, ◌-◌, ◌==◌, List, [], ◌∷◌, ◌++◌, length, Option, Some, None, Result, Ok, Err, IfOk, refl, ap, sym, subst, arith, length-append}
 use Rattle.std.specs.Prelude.{All, IfSome, MatchBool, is_some, if◌then◌else◌}
 use Rattle.std.proofs.Props.{props}
 use Rattle.std.proofs.Math.Logic.{∥∥₁_elim}
@@ -39,10 +39,10 @@ use Rattle.tmem_desk.specs.Keeping.{kept_under, with_kept}
 use Rattle.tmem_desk.specs.Serving.{Takes, TakesLine, TakesText, TakesShort, TakesLast, MayWait, HasNoPlan, IsAnsweredAtOnce, Runs, RunsCopy, kept_as, RefusesLine, RefusesLong, Round, TriesNext, TriesFirst, Wakes, Finishes, tells, tried, tried_again, by, one_line_more, waits, without, cancelled, closed, with_closed}
 use Rattle.tmem_desk.specs.Steps.{LabelledSteps, Repeats}
 use Rattle.tmem_desk.specs.Failing.{TellsBehind}
-use Rattle.tmem_desk.specs.Told.{TellsOnly, TellsWithin, answer_told, refused, rests_within, told_last}
+use Rattle.tmem_desk.specs.Told.{TellsWithin, answer_told, refused, rests_within}
 use Rattle.tmem_desk.specs.declared.told.Told.{Told}
 use Rattle.tmem_desk.specs.declared.told.Told.TheVariants as told
-use Rattle.tmem_desk.proofs.Ends.{only_within, within_last}
+use Rattle.tmem_desk.proofs.Ends.{within_last}
 
 -- how many transactions a pass knows to be committed or to be durable
 abbrev pub reached : Store → PassRoleView → ℕ
@@ -393,7 +393,5 @@ within_among n f (told.NoRequest refusal) = λ is. tt
 pub stopped_told : (s : Store) (texts : List (List ℕ)) (mid w : DeskView) (f : Fault) (prints : List ℕ → Type 0) (t : TellsBehind s texts mid f w prints) → All (TellsAmong (count s.start w.pass.seen)) t.all
 stopped_told s texts mid w f prints t =
     let n : ℕ = count s.start w.pass.seen in
-    let first : All (TellsWithin n f) (map (told_last (Some n) f) mid.told) = within_last (Some n) n f mid.told refl in
-    let later : All (TellsWithin n f) t.behind = All-weaker (TellsOnly f) (TellsWithin n f) (only_within n f) t.behind t.only in
     All-weaker (TellsWithin n f) (TellsAmong n) (within_among n f) t.all
-    (subst (All (TellsWithin n f)) (sym t.told) (All-append (TellsWithin n f) (map (told_last (Some n) f) mid.told) t.behind first later))
+    (subst (All (TellsWithin n f)) (sym t.told) (within_last (Some n) n f (with_closed t.over).told refl))

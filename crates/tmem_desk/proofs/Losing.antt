@@ -4,12 +4,11 @@ use Rattle.std.specs.Prelude.{All, MatchBool, count_by, flat_map}
 use Rattle.std.specs.Result.{IsErrAnd}
 use Rattle.std.proofs.lemmas.Bool.{false≢true}
 use Rattle.std.proofs.lemmas.Bool.Decides.{nat_tests}
-use Rattle.std.proofs.lemmas.List.{append-nil, flat_map_more, map-append, map_push}
+use Rattle.std.proofs.lemmas.List.{append-nil, flat_map_more, map_push}
 use Rattle.std.proofs.lemmas.List.Concat.{flat_map-append}
-use Rattle.std.proofs.lemmas.List.Elements.{All-nil, All-cons, All-append, All-push}
+use Rattle.std.proofs.lemmas.List.Elements.{All-nil, All-append, All-push}
 use Rattle.tmem_fault.specs.declared.fault.Fault.{Fault}
 use Rattle.tmem_fault.specs.declared.fault.Fault.TheVariants.{Memory}
-use Rattle.tmem_fault.specs.declared.fault.Fault.TheVariants as fault
 use Rattle.tmem_lines.specs.Lines.{line, IsLine, IsLongLine, IsUnbroken, HoldsRestOf, IsCutOff}
 use Rattle.tmem_lines.specs.Views.{LinesView}
 use Rattle.tmem_front.specs.Settling.{SeesMore}
@@ -20,18 +19,18 @@ use Rattle.tmem_requests.specs.declared.request.RequestBody.{RequestBody}
 use Rattle.tmem_desk.specs.Asking.{Store}
 use Rattle.tmem_desk.specs.Desks.{DeskView}
 use Rattle.tmem_desk.specs.Due.{LineCounts, LinesCount, LosesNone, KeepsDue, answers_any_of, due_of, waits_of}
-use Rattle.tmem_desk.specs.Failing.{AnswersLine, AnswersOnly, GoesBehind, IsLast, IsUnprinted, IsMemoryOrOutput, LearnsOnly, OrMemory, PassesAll, PassesLine, PassesOver, PrintsBeginning, PrintsPart, Stops, StopsBehind, StopsWithin, TakesPart, TakesRest, TellsAll, TellsBehind, TellsEach, TellsWhy, TriesUntil}
-use Rattle.tmem_desk.specs.Serving.{IsAskedOf, RefusesLine, RefusesLong, Round, Splits, TakesAll, TakesLast, TakesLine, TakesText, TakesShort, TriesNext, Wakes, by, closed, one_line_more, tells, with_closed}
+use Rattle.tmem_desk.specs.Failing.{AnswersLine, AnswersOnly, GoesBehind, IsLast, IsUnprinted, IsMemoryOrOutput, LearnsOnly, OrMemory, PassesAll, PassesShort, PassesText, PrintsBeginning, PrintsPart, Stops, StopsBehind, StopsWithin, TakesPart, TakesRest, TellsAll, TellsBehind, TellsEach, TellsWhy, TriesUntil}
+use Rattle.tmem_desk.specs.Serving.{IsAskedOf, RefusesLine, RefusesLong, Round, Splits, TakesAll, TakesLast, TakesLine, TakesText, TakesShort, TriesNext, Wakes, by, one_line_more, tells, with_closed}
 use Rattle.tmem_desk.specs.Steps.{LabelledSteps, Repeats}
-use Rattle.tmem_desk.specs.Told.{TellsFault, TellsOnly, answer_told, refused, told_last, told_lines}
+use Rattle.tmem_desk.specs.Told.{TellsOnly, answer_told, told_last, told_lines}
 use Rattle.tmem_desk.specs.declared.failure.DeskFailure.{DeskFailure}
 use Rattle.tmem_desk.specs.declared.failure.DeskFailure.TheVariants.{Output}
 use Rattle.tmem_desk.specs.declared.failure.DeskFailure.TheVariants as failure
 use Rattle.tmem_desk.specs.declared.told.Told.{Told}
 use Rattle.tmem_desk.proofs.Counted.{closed_due, last_count, long_due, refused_due, repeated_due, taken_due, tells_one, waits_again}
-use Rattle.tmem_desk.proofs.Ends.{faults_last}
-use Rattle.tmem_desk.proofs.Sight.{sees_as, sees_the_same, sees_then}
-use Rattle.tmem_desk.proofs.Taking.{TakesSome, long_text, short_text}
+use Rattle.tmem_desk.proofs.Sight.{sees_as}
+use Rattle.tmem_desk.proofs.StepLaws.{LabelledSteps-push}
+use Rattle.tmem_desk.proofs.Taking.{TakesSome, short_text}
 
 -- ---- errors that are handed on
 
@@ -264,36 +263,20 @@ pub record PassesSome (s : Store) (text : List ℕ) (held : LinesView) (v w : De
   pub is : text ≡ flat_map line texts ++ rest
   pub unbroken : All IsUnbroken texts
   pub stands : HoldsRestOf held rest
-  pub passes : PassesOver s texts v w
+  pub passes : LabelledSteps (PassesText s) texts v w
 
 pub passes_none : (s : Store) (text : List ℕ) (held : LinesView) (v : DeskView) → HoldsRestOf held text → PassesSome s text held v v
-passes_none s text held v stands = record {
-  texts = [];
-  rest = text;
-  is = refl;
-  unbroken = All-nil IsUnbroken;
-  stands = stands;
-  passes = record { behind = []; told = sym (append-nil v.told); only = All-nil TellsFault; sees = sees_the_same v.pass; loses = loses_nothing s v v refl };
-}
-
-passes_then : (s : Store) (xs ys : List (List ℕ)) (v mid w : DeskView) → PassesOver s xs v mid → PassesOver s ys mid w → PassesOver s (xs ++ ys) v w
-passes_then s xs ys v mid w one two = record {
-  behind = one.behind ++ two.behind;
-  told = two.told ∙ (ap (λ (l : List Told). l ++ two.behind) one.told ∙ append_assoc v.told one.behind two.behind);
-  only = All-append TellsFault one.behind two.behind one.only two.only;
-  sees = sees_then v.pass mid.pass w.pass one.sees two.sees;
-  loses = loses_then s xs ys v mid w one.loses two.loses;
-}
+passes_none s text held v stands = record { texts = []; rest = text; is = refl; unbroken = All-nil IsUnbroken; stands = stands; passes = refl }
 
 -- one line more
-pub passes_more : (s : Store) (text bytes : List ℕ) (held held' : LinesView) (v mid w : DeskView) (so : PassesSome s text held v mid) → IsCutOff so.rest bytes held' → PassesOver s (bytes ∷ []) mid w → PassesSome s text held' v w
+pub passes_more : (s : Store) (text bytes : List ℕ) (held held' : LinesView) (v mid w : DeskView) (so : PassesSome s text held v mid) → IsCutOff so.rest bytes held' → PassesText s bytes mid w → PassesSome s text held' v w
 passes_more s text bytes held held' v mid w so cut passes = record {
   texts = so.texts ++ bytes ∷ [];
   rest = cut.rest;
   is = so.is ∙ (ap (λ (r : List ℕ). flat_map line so.texts ++ r) cut.is ∙ (sym (append_assoc (flat_map line so.texts) (line bytes) cut.rest) ∙ ap (λ (r : List ℕ). r ++ cut.rest) (flat_map_more line [] so.texts bytes)));
   unbroken = All-push IsUnbroken so.texts bytes so.unbroken cut.unbroken;
   stands = cut.stands;
-  passes = passes_then s so.texts (bytes ∷ []) v mid w so.passes passes;
+  passes = LabelledSteps-push (PassesText s) so.texts bytes v mid w so.passes passes;
 }
 
 -- all that have ended
@@ -304,58 +287,50 @@ passes_all s text held held' v w so last stands = record {
   passes = so.passes;
 }
 
--- a line that is passed over
-answer_passes : (s : Store) (text : List ℕ) (v w : DeskView) → IsLine text → AnswersLine s text v w → PassesOver s (text ∷ []) v w
-answer_passes s text v w short a = record {
-  behind = answer_told a.id (answer.Fault a.only.fault) ∷ [];
-  told = ap (λ (d : DeskView). d.told) a.only.is;
-  only = All-cons TellsFault (answer_told a.id (answer.Fault a.only.fault)) [] (a.only.fault, refl) (All-nil TellsFault);
-  sees = a.only.sees;
-  loses = answer_loses s text v w short a;
-}
+pub line_passes : (s : Store) (text : List ℕ) (v w : DeskView) → IsLine text → PassesShort s text v w → PassesText s text v w
+line_passes s text v w short passes =
+    let is : nat_lt 65536 (length text) ≡ false = grind (arith, nat_tests) in
+    subst (λ (b : Bool). MatchBool b (RefusesLong v w) (PassesShort s text v w)) (sym is) passes
 
-refusal_passes : (s : Store) (text : List ℕ) (v w : DeskView) (one : Told) → TellsFault one → w ≡ tells (one_line_more v) (one ∷ []) → LosesNone s (text ∷ []) v w → PassesOver s (text ∷ []) v w
-refusal_passes s text v w one fault is loses = record {
-  behind = one ∷ [];
-  told = ap (λ (d : DeskView). d.told) is;
-  only = All-cons TellsFault one [] fault (All-nil TellsFault);
-  sees = sees_as v.pass w.pass (ap (λ (d : DeskView). d.pass) is);
-  loses = loses;
-}
+pub long_passes : (s : Store) (text : List ℕ) (v w : DeskView) → IsLongLine text → RefusesLong v w → PassesText s text v w
+long_passes s text v w long refuses =
+    let is : nat_lt 65536 (length text) ≡ true = grind (arith, nat_tests) in
+    subst (λ (b : Bool). MatchBool b (RefusesLong v w) (PassesShort s text v w)) (sym is) refuses
 
-pub line_passes : (s : Store) (text : List ℕ) (v w : DeskView) → IsLine text → PassesLine s text v w → PassesOver s (text ∷ []) v w
-line_passes s text v w short (inl a) = answer_passes s text v w short a
-line_passes s text v w short (inr r) =
-    refusal_passes s text v w (refused (one_line_more v).lines r.refusal) tt r.is (text_loses s text v w (short_text s text v w short (inr r)))
+-- none is lost
+passed_due : (s : Store) (text : List ℕ) (v w : DeskView) → PassesText s text v w → LosesNone s (text ∷ []) v w
+passed_due s text v w t = either (nat_lt 65536 (length text)) refl t
+  where
+    either : (b : Bool) → nat_lt 65536 (length text) ≡ b → MatchBool b (RefusesLong v w) (PassesShort s text v w) → LosesNone s (text ∷ []) v w
+    either true long r = text_loses s text v w (subst (λ (b : Bool). MatchBool b (RefusesLong v w) (TakesShort s text v w)) (sym long) r)
+    either false less t =
+        let short : IsLine text = grind (arith, nat_tests) in
+        ⊎_elim
+        (λ (a : AnswersLine s text v w). answer_loses s text v w short a)
+        (λ (r : RefusesLine s text v w). text_loses s text v w (short_text s text v w short (inr r)))
+        t
 
-pub long_passes : (s : Store) (text : List ℕ) (v w : DeskView) → IsLongLine text → RefusesLong v w → PassesOver s (text ∷ []) v w
-long_passes s text v w long r = refusal_passes s text v w (refused (one_line_more v).lines r.refusal) tt r.is (text_loses s text v w (long_text s text v w long r))
+passes_lose : (s : Store) (texts : List (List ℕ)) (v w : DeskView) → LabelledSteps (PassesText s) texts v w → LosesNone s texts v w
+passes_lose s [] v w same = loses_nothing s v w same
+passes_lose s (text ∷ texts) v w steps = loses_then s (text ∷ []) texts v steps.0 w (passed_due s text v steps.0 steps.1) (passes_lose s texts steps.0 w steps.2)
 
 -- ---- what is told in the end
 
-closed_faults : (all : List (ℤ × RequestBody)) → All TellsFault (closed all)
-closed_faults [] = All-nil TellsFault
-closed_faults (one ∷ all) = All-cons TellsFault (answer_told one.0 (answer.Fault fault.Closed)) (closed all) (fault.Closed, refl) (closed_faults all)
-
-pub tells_behind : (s : Store) (texts : List (List ℕ)) (mid over shut w : DeskView) (f : Fault) (d : Option ℕ) (all given : List Told) (prints : List ℕ → Type 0) → PassesOver s texts mid over → shut ≡ with_closed over
-    → all ≡ shut.told → SeesMore shut.pass w.pass → given ≡ map (told_last d f) all → prints (told_lines given) → d ≡ Some (count s.start w.pass.seen) → TellsBehind s texts mid f w prints
+pub tells_behind : (s : Store) (texts : List (List ℕ)) (mid over shut w : DeskView) (f : Fault) (d : Option ℕ) (all given : List Told) (prints : List ℕ → Type 0) → LabelledSteps (PassesText s) texts mid over
+    → shut ≡ with_closed over → all ≡ shut.told → SeesMore shut.pass w.pass → given ≡ map (told_last d f) all → prints (told_lines given) → d ≡ Some (count s.start w.pass.seen) → TellsBehind s texts mid f w prints
 tells_behind s texts mid over shut w f d all given prints passes closes told sees is printed durable =
-    let last : Told → Told = told_last d f in
-    let more : List Told = passes.behind ++ closed over.waiting in
-    let whole : all ≡ mid.told ++ more =
-    told ∙ (ap (λ (v : DeskView). v.told) closes ∙ (ap (λ (l : List Told). l ++ closed over.waiting) passes.told ∙ append_assoc mid.told passes.behind (closed over.waiting))) in
-    let parts : given ≡ map last mid.told ++ map last more = is ∙ (ap (map last) whole ∙ map-append last mid.told more) in
+    let whole : all ≡ (with_closed over).told = told ∙ ap (λ (v : DeskView). v.told) closes in
     record {
+      over = over;
+      passes = passes;
+      sees = subst (λ (p : PassRoleView). SeesMore p w.pass) (ap (λ (v : DeskView). v.pass) closes) sees;
       all = given;
-      behind = map last more;
-      told = subst (λ (o : Option ℕ). given ≡ map (told_last o f) mid.told ++ map last more) durable parts;
-      only = faults_last d f more (All-append TellsFault passes.behind (closed over.waiting) passes.only (closed_faults over.waiting));
-      sees = sees_then mid.pass over.pass w.pass passes.sees (subst (λ (p : PassRoleView). SeesMore p w.pass) (ap (λ (v : DeskView). v.pass) closes) sees);
+      told = subst (λ (o : Option ℕ). given ≡ map (told_last o f) (with_closed over).told) durable (is ∙ ap (map (told_last d f)) whole);
       each = λ among others n c.
           ap (count_by (answers_any_of among others)) is
           ∙ (last_count among others d f all
-          ∙ (ap (count_by (answers_any_of among others)) (told ∙ ap (λ (v : DeskView). v.told) closes)
-          ∙ (closed_due among others over ∙ passes.loses among others n c)));
+          ∙ (ap (count_by (answers_any_of among others)) whole
+          ∙ (closed_due among others over ∙ passes_lose s texts mid over passes among others n c)));
       printed = printed;
     }
 
@@ -387,6 +362,7 @@ pub part_then : (s : Store) (text : List ℕ) (held held' : LinesView) (Ran : De
 part_then s text held held' Ran v mid w prints Output so (inr want) = inr (inr want)
 part_then s text held held' Ran v mid w prints Output so (inl why) = inr (inl (record {
   fault = why.fault;
+  other = why.other;
   texts = so.texts ++ why.texts;
   lines = split_then s text held held' v mid so why.texts why.lines;
   tells = each_then s so.texts why.texts v mid w why.fault (PrintsBeginning prints) so.stops why.tells;
@@ -418,6 +394,7 @@ pub rest_then : (s : Store) (text : List ℕ) (held : LinesView) (Ran : DeskView
 rest_then s text held Ran v mid w prints Output so (inr want) = inr (inr want)
 rest_then s text held Ran v mid w prints Output so (inl why) = inr (inl (record {
   fault = why.fault;
+  other = why.other;
   texts = so.texts;
   lines = so.last;
   tells = rest_each s text held v mid w why.fault (PrintsBeginning prints) so why.texts why.lines why.tells;
@@ -426,16 +403,16 @@ rest_then s text held Ran v mid w prints (failure.Fault f) so (inl is) = inl is
 rest_then s text held Ran v mid w prints (failure.Fault f) so (inr t) = inr (so.texts, so.last, rest_each s text held v mid w f prints so t.0 t.1 t.2)
 
 -- all ran, and what is told could not be printed
-unprinted_all : (s : Store) (Are : List (List ℕ) → Type 0) (Ran : DeskView → Type 0) (v ran w : DeskView) (prints : List ℕ → Type 0) (e : DeskFailure) → Ran ran → IsUnprinted prints ran.told e → TellsAll s Are Ran v w prints e
-unprinted_all s Are Ran v ran w prints Output runs is = inl (ran, runs, is)
-unprinted_all s Are Ran v ran w prints (failure.Fault f) runs is = inl is
+unprinted_all : (s : Store) (Are : List (List ℕ) → Type 0) (Ran : DeskView → Type 0) (v ran w : DeskView) (prints : List ℕ → Type 0) (e : DeskFailure) → Ran ran → w.pass ≡ ran.pass → IsUnprinted prints ran.told e → TellsAll s Are Ran v w prints e
+unprinted_all s Are Ran v ran w prints Output runs same is = inl (ran, runs, sym same, is)
+unprinted_all s Are Ran v ran w prints (failure.Fault f) runs same is = inl is
 
 -- why the store cannot go on could not be printed
 pub unprinted_why : (s : Store) (Are : List (List ℕ) → Type 0) (mid w : DeskView) (prints : List ℕ → Type 0) (texts : List (List ℕ)) (fault : Fault) (all : List Told) (e : DeskFailure) → Are texts
-    → (PrintsPart prints all → (fault ≡ Memory) ⊎ TellsBehind s texts mid fault w (PrintsBeginning prints)) → (fault ≡ Memory → All (TellsOnly fault) all) → IsUnprinted prints all e → TellsWhy s Are mid w prints e
+    → (PrintsPart prints all → (fault ≡ Memory) ⊎ ((fault ≢ Memory) × TellsBehind s texts mid fault w (PrintsBeginning prints))) → (fault ≡ Memory → All (TellsOnly fault) all) → IsUnprinted prints all e → TellsWhy s Are mid w prints e
 unprinted_why s Are mid w prints texts fault all Output are each only is = ⊎_elim
     (λ (m : fault ≡ Memory). inr (all, subst (λ (f : Fault). All (TellsOnly f) all) m (only m), is))
-    (λ (t : TellsBehind s texts mid fault w (PrintsBeginning prints)). inl (record { fault = fault; texts = texts; lines = are; tells = t }))
+    (λ (t : (fault ≢ Memory) × TellsBehind s texts mid fault w (PrintsBeginning prints)). inl (record { fault = fault; other = t.0; texts = texts; lines = are; tells = t.1 }))
     (each is)
 unprinted_why s Are mid w prints texts fault all (failure.Fault f) are each only is = inl is
 
@@ -460,10 +437,10 @@ passed_over s text id id' asks f v w same asked is =
     })
 
 pub unprinted_texts : {X : Type 0} (Is : List ℕ → Type 0) (s : Store) (Are : List ℕ → List (List ℕ) → Type 0) (Ran : List ℕ → DeskView → Type 0) (v ran w : DeskView) (prints : List ℕ → Type 0) (r : Result X DeskFailure)
-    → ((text : List ℕ) → Is text → Ran text ran) → IfErr r (IsUnprinted prints ran.told)
+    → ((text : List ℕ) → Is text → Ran text ran) → w.pass ≡ ran.pass → IfErr r (IsUnprinted prints ran.told)
     → IfErr r (λ e. (text : List ℕ) → Is text → TellsAll s (Are text) (Ran text) v w prints e)
-unprinted_texts Is s Are Ran v ran w prints (Ok x) runs is = tt
-unprinted_texts Is s Are Ran v ran w prints (Err e) runs is = λ text so. unprinted_all s (Are text) (Ran text) v ran w prints e (runs text so) is
+unprinted_texts Is s Are Ran v ran w prints (Ok x) runs same is = tt
+unprinted_texts Is s Are Ran v ran w prints (Err e) runs same is = λ text so. unprinted_all s (Are text) (Ran text) v ran w prints e (runs text so) same is
 
 -- a piece whose lines met a fault
 pub piece_fails : {X : Type 0} {Is : List ℕ → Type 0} (r : Result X DeskFailure) (s : Store) (piece : List ℕ) (held held' : LinesView) (Ran : List ℕ → DeskView → Type 0) (v mid w : DeskView) (prints : List ℕ → Type 0) (f : Fault)

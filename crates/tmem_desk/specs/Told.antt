@@ -28,7 +28,7 @@ told_line (told.NoRequest n) = line (no_request_line n.line n.refusal)
 abbrev pub told_lines : List Told → List ℕ
 told_lines all = flat_map told_line all
 
--- whether an answer names how many transactions it rests on, all of which are among the first so many
+-- whether an answer names transactions that it rests on, and all of them are among the first so many
 abbrev pub rests_within : ℕ → Answer → Bool
 rests_within n (answer.Settled (Committed number registers)) = nat_lt number n
 rests_within n (answer.Settled (Seen at registers)) = nat_le at n
@@ -57,8 +57,3 @@ TellsOnly fault (told.NoRequest n) = Unit {0}
 abbrev pub TellsWithin : ℕ → Fault → Told → Type 0
 TellsWithin n fault (told.Answer a) = (a.answer ≡ answer.Fault fault) ⊎ (rests_within n a.answer ≡ true)
 TellsWithin n fault (told.NoRequest refusal) = Unit {0}
-
--- it tells a request of a fault, whichever
-abbrev pub TellsFault : Told → Type 0
-TellsFault (told.Answer a) = (fault : Fault) × (a.answer ≡ answer.Fault fault)
-TellsFault (told.NoRequest n) = Unit {0}

@@ -4,7 +4,7 @@ ghost use Rattle.std.specs.Ordering.{int_eq};
 ghost use Rattle.tmem_requests.specs.Fits.{FitsStore};
 ghost use Rattle.tmem_requests.specs.declared.request.RequestBody.TheVariants.{Do};
 ghost use Rattle.tmem_desk.specs.Asking.{store};
-ghost use Rattle.tmem_desk.specs.Failing.{AnswersLine, AnswersOnly, LearnsOnly, OrMemory, PassesLine};
+ghost use Rattle.tmem_desk.specs.Failing.{AnswersLine, AnswersOnly, LearnsOnly, OrMemory, PassesShort};
 ghost use Rattle.tmem_desk.specs.Held.{asked, desk_view, empty_desk};
 ghost use Rattle.tmem_desk.specs.Serving.{Takes, MayWait, TakesShort, RefusesLong, tells, tried, cancelled};
 ghost use Rattle.tmem_desk.specs.Told.{answer_told, refused};
@@ -135,7 +135,7 @@ impl<N: ServedNaming> Desk<N> {
         service: &Service<R, D, N, T, S>,
         text: &[u8],
     ) -> Result<(), Fault>
-        ensures ok { OnOk result (PassesLine (store N.name.start N.opening N.program N.arities N.always) text.now (desk_view self.old) (desk_view self.new)) }
+        ensures ok { OnOk result (PassesShort (store N.name.start N.opening N.program N.arities N.always) text.now (desk_view self.old) (desk_view self.new)) }
         ensures err { IfErr result (λ f. f ≡ Fault.Memory) }
     {
         self.lines = self.lines.wrapping_add(1);

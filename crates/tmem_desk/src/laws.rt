@@ -30,8 +30,8 @@ pub fn each_is_answered_once()
 
 /// Nothing that a client was told is lost: each transaction that an answer names, and each that it was made on, is among those that the
 /// pass saw durable before it was printed, also where the output takes the beginning alone (`ran`), and where serving ends early
-/// (`stopped`, `stopped_output`). For an answer that names none, as that a transaction retries, aborts or is refused, it is told of what the pass knew when it
-/// was made: that stays known from line to line and from turn to turn, and is durable once all is finished.
+/// (`stopped`, `stopped_output`). For an answer that names none, as that a transaction retries, aborts or is refused, it is told of what the
+/// pass knew when it was made: that stays known from line to line and from turn to turn, and is durable once all is finished.
 pub fn nothing_told_is_lost()
     ensures pieces { (s : Store) (text : List ℕ) (held : LinesView) (v w : DeskView) (before after : Option (List ℕ)) (served : ServesPiece s text held v w (Appends before after))
         → v.told ≡ [] → All (TellsAmong (count s.start w.pass.seen)) served.ran.told }

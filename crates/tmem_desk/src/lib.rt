@@ -2,7 +2,8 @@
 //!
 //! `Desk::serve` takes a piece of input: it runs every whole line, tries again those that wait, makes durable all that is committed, and
 //! only then prints the answers, by one write. So nothing that a client was told is lost, whatever crashes: neither what it was told to be
-//! committed, nor what a read, a retry, an abort or a refusal rests on. `specs/Serving` says what each line is answered.
+//! committed, nor what a read, a retry, an abort or a refusal rests on. `specs/Serving` says what each line is answered, and `specs/Failing`
+//! what is told where the store cannot go on.
 #![tactic(auto)]
 
 mod counts;

@@ -116,6 +116,7 @@ impl<N: ServedNaming> Desk<N> {
         requires { self.old.pass.seen ≡ self.old.pass.known }
         ensures printed { OnOk result (Appends (W.contents out.old) (W.contents out.new) (told_lines self.old.told.items)) }
         ensures desk { OnOk result (desk_view self.new ≡ record (desk_view self.old) { told = [] }) }
+        ensures pass { self.new.pass ≡ self.old.pass }
         ensures ends { IfErr result (EndsBy (Appends (W.contents out.old) (W.contents out.new))) }
         ensures err { IfErr result (IsUnprinted (Appends (W.contents out.old) (W.contents out.new)) self.old.told.items) }
     {

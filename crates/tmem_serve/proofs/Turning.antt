@@ -158,7 +158,7 @@ module _ (s : Store) (v : DeskView) (unread before : Option (List ℕ)) where
       → Keeps printed flushed → f ≡ failure.Output → StopsInput s v unread rest' before flushed f
   piece_unflushed w w' held held' rest rest' after printed flushed piece f so read serves kept is =
       let of = serves so.left so.stands in
-      unflushed w held rest rest' after flushed piece f so read is (inl (held', w', inl (of.ran, of.runs, whole_part after printed flushed of.ran.told of.printed kept)))
+      unflushed w held rest rest' after flushed piece f so read is (inl (held', w', inl (of.ran, of.runs, sym (ap (λ (d : DeskView). d.pass) of.is), whole_part after printed flushed of.ran.told of.printed kept)))
 
   -- and of the end
   pub end_unflushed : (w w' : DeskView) (held : LinesView) (rest rest' after printed flushed : Option (List ℕ)) (f : DeskFailure) → HasServed s v w held unread rest before after
@@ -167,7 +167,7 @@ module _ (s : Store) (v : DeskView) (unread before : Option (List ℕ)) where
   end_unflushed w w' held rest rest' after printed flushed f so read serves kept is =
       let of = serves so.left so.stands in
       let ran : RunsEnd s so.left w (with_closed of.ran) = record { ran = of.ran; runs = of.runs; is = refl } in
-      unflushed w held rest rest' after flushed [] f so read is (inr (w', inl (with_closed of.ran, ran, whole_part after printed flushed (with_closed of.ran).told of.printed kept)))
+      unflushed w held rest rest' after flushed [] f so read is (inr (w', inl (with_closed of.ran, ran, sym (ap (λ (d : DeskView). d.pass) of.is), whole_part after printed flushed (with_closed of.ran).told of.printed kept)))
 
   -- where there was no memory to begin with
   pub not_begun : (held : LinesView) → HoldsRestOf held [] → StopsInput s v unread unread before before (failure.Fault Memory)

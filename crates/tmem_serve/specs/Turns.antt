@@ -51,8 +51,8 @@ pub record ServesInput (s : Store) (v : DeskView) (unread rest before after : Op
   pub read : Consumes unread rest (read_in turns)
   pub printed : Appends before after (printed_in turns ++ last)
 
--- Each that was due is told, and each line that has ended of what was left and of this piece; or at the end of the input what was left:
--- by a desk that saw and knows so much then. Where the output failed, no more was printed than the beginning of that.
+-- Each that was due is told, and each line that has ended of what was left and of this piece; or at the end of the input what was left. The
+-- desk is w then. Where the output failed, no more was printed than the beginning of that.
 abbrev pub TellsStop : Store → List ℕ → List ℕ → DeskView → (List ℕ → Type 0) → DeskFailure → Type 0
 TellsStop s left piece v prints f =
     ((held : LinesView) × (w : DeskView) × TellsAll s (λ (texts : List (List ℕ)). Splits (left ++ piece) texts held) (RunsPiece s (left ++ piece) held v) v w prints f)

@@ -50,8 +50,8 @@ pub enum InputEnd {
 
 /// Opens a store, and serves it until the end of the input, or until a read of that fails: then all that was read is answered as at the
 /// end. Refused as an opening is, and with the first invariant that should always hold and is not registered, before anything is read or
-/// printed; with the fault that a call of the device or want of memory ended it
-/// by, once each request of that piece of input was answered so; and with `Output` where the output failed.
+/// printed; with the fault that a call of the device or want of memory ended it by, once each request of that piece of input was told as
+/// `Desk::serve` says; and with `Output` where the output failed.
 pub fn serve_store<
     R: Wait,
     D: Disk + Drop,

@@ -66,8 +66,8 @@ fn commit_all<R: Abort + Wait>(rt: &R, alloc: Global, asked: &str) -> Result<(),
     serve_text(rt, alloc, piece, wanted)
 }
 
-// Two flushes make room for the transactions behind 256 and 320, and others come at the end. Each takes 64, and makes two syncs: each of these
-// fails in turn, or the first of the checkpoint that the third flush wants. What was durable before is told as committed.
+// Two flushes make room for the transactions behind 256 and 320, and others come at the end. Each takes 64, and makes two syncs. Each of
+// these fails in turn, and each of the first two of the checkpoint that the third flush wants. What was durable before is told as committed.
 #[test]
 fn what_is_durable_is_told_where_a_later_flush_fails(rt: HostRuntime) -> Result<(), Fail> {
     let alloc = rt.alloc();

@@ -98,7 +98,7 @@ static CASES: &[Case<'static>] = &[
         ],
     },
     Case {
-        name: "so is none that names no transaction",
+        name: "an answer that names no transaction is not told then",
         fails: Some(0),
         pieces: &[
             "{\"id\":1,\"do\":{\"abort\":7}}\n{\"id\":2,\"try\":\"retry\"}\n{\"id\":3,\"do\":{\"seq\":[{\"put\":[0,-1]},{\"write\":[0,0]},{\"check\":\"solvent\"}]}}\n{\"id\":4,\"do\":{\"read\":[9,0]}}\n{\"id\":5,\"keep\":[\"word\",\"skip\"]}\n{\"id\":6,\"cancel\":9}\n{\"id\":7,\"ask\":\"stats\"}\n{\"id\":8,\"settle\":{\"reads\":[[0,1]]}}\n{\"id\":9,\"do\":{\"write\":[0,0]}}\n",

@@ -18,7 +18,7 @@ returns-in_ok-close_waiting-in-Ok-clause-serves g c =
 pub returns-in_ok-close_waiting-in-Ok-clause-told : goal.returns-in_ok-close_waiting-in-Ok-clause-told
 returns-in_ok-close_waiting-in-Ok-clause-told g c =
     unprinted_texts _ (store g.N.Naming.name.start g.N.StoreNaming.opening g.N.ProgramNaming.program g.N.ServedNaming.arities g.N.ServedNaming.always) IsLast (λ (text : List ℕ). RunsEnd (store g.N.Naming.name.start g.N.StoreNaming.opening g.N.ProgramNaming.program g.N.ServedNaming.arities g.N.ServedNaming.always) text (desk_view c.args.self.now)) (desk_view c.args.self.now) (desk_view c.close_waiting.new.self) (desk_view c.give.new.self) (Appends (g.W.Write.contents c.args.out.now) (g.W.Write.contents c.give.new.out)) c.give.result
-    (λ text stands. record { ran = desk_view c.run_last.new.self; runs = c.in-Ok.ensures.runs text stands; is = c.in_ok-close_waiting-in-Ok.ensures.told }) c.give.ensures.err
+    (λ text stands. record { ran = desk_view c.run_last.new.self; runs = c.in-Ok.ensures.runs text stands; is = c.in_ok-close_waiting-in-Ok.ensures.told }) c.give.ensures.pass c.give.ensures.err
 
 pub returns-in_err-close_waiting-in-Ok-clause-told : goal.returns-in_err-close_waiting-in-Ok-clause-told
 returns-in_err-close_waiting-in-Ok-clause-told g c = handed c.from_residual.result (failure.Fault c.in_err-close_waiting-in-Ok.field-0.0) _ c.from_residual.ensures.1 (λ text stands. inl c.in_err-close_waiting-in-Ok.ensures.err)

@@ -9,7 +9,7 @@ use Rattle.tmem_desk.specs.Failing.{PrintsBeginning}
 use Rattle.tmem_desk.specs.Serving.{Splits}
 use Rattle.tmem_desk.specs.Told.{TellsOnly, TellsWithin}
 use Rattle.tmem_desk.specs.declared.failure.DeskFailure.TheVariants as failure
-use Rattle.tmem_desk.proofs.Ends.{only_last, unless_memory, within_last}
+use Rattle.tmem_desk.proofs.Ends.{no_memory, only_last, unless_memory, within_last}
 use Rattle.tmem_desk.proofs.Giving.{ends_told}
 use Rattle.tmem_desk.proofs.Losing.{handed, tells_behind, unprinted_want, unprinted_why}
 use Rattle.tmem_desk.proofs.desk.Desk.fail.Goals as goal
@@ -49,8 +49,11 @@ returns-in_err-print-clause-told g c =
     unprinted_why s (λ (texts : List (List ℕ)). Splits text texts c.pass_over.new.lines) (desk_view c.args.self.now) _ prints over.texts c.why_ended-fault.result c.deref.result.now c.in_err-print.field-0.0 over.splits
     (λ part.
     unless_memory c.durable_at_last-durable.result c.why_ended-fault.result (count g.N.Naming.name.start c.durable_at_last-durable.new.self.pass.seen) c.durable_at_last-durable.ensures.none c.durable_at_last-durable.ensures.counts
-    (λ durable. tells_behind s over.texts (desk_view c.args.self.now) (desk_view c.pass_over.new.self) (desk_view c.close_waiting.new.self) _ c.why_ended-fault.result c.durable_at_last-durable.result c.replace-told.result.items _ (PrintsBeginning prints) over.passes c.in_ok-close_waiting.ensures.told
-    (ap (λ v. v.items) c.replace-told.ensures.value ∙ ap (λ (v : DeskView). v.told) c.durable_at_last-durable.ensures.desk) c.durable_at_last-durable.ensures.sees (c.deref.ensures.value ∙ c.in-Ok.ensures) part durable))
+    (λ durable. (
+      no_memory c.durable_at_last-durable.result c.why_ended-fault.result (count g.N.Naming.name.start c.durable_at_last-durable.new.self.pass.seen) c.durable_at_last-durable.ensures.memory durable,
+      tells_behind s over.texts (desk_view c.args.self.now) (desk_view c.pass_over.new.self) (desk_view c.close_waiting.new.self) _ c.why_ended-fault.result c.durable_at_last-durable.result c.replace-told.result.items _ (PrintsBeginning prints) over.passes c.in_ok-close_waiting.ensures.told
+          (ap (λ v. v.items) c.replace-told.ensures.value ∙ ap (λ (v : DeskView). v.told) c.durable_at_last-durable.ensures.desk) c.durable_at_last-durable.ensures.sees (c.deref.ensures.value ∙ c.in-Ok.ensures) part durable,
+    )))
     (λ memory. subst (All (TellsOnly c.why_ended-fault.result)) (sym (c.deref.ensures.value ∙ c.in-Ok.ensures)) (only_last c.durable_at_last-durable.result c.why_ended-fault.result c.replace-told.result.items (c.durable_at_last-durable.ensures.memory memory)))
     c.in_err-print.ensures.err)
 

@@ -1,6 +1,6 @@
 use Rattle.std.proofs.Common.{ℕ, List, subst}
 use Rattle.tmem_desk.specs.Asking.{store}
-use Rattle.tmem_desk.specs.Failing.{PassesLine}
+use Rattle.tmem_desk.specs.Failing.{PassesShort}
 use Rattle.tmem_desk.specs.Held.{desk_view}
 use Rattle.tmem_desk.proofs.Losing.{handed, line_passes, long_passes, passes_all, passes_more, passes_none}
 use Rattle.tmem_desk.proofs.desk.Desk.pass_over.Goals as goal
@@ -16,7 +16,7 @@ loop-preserved-in-Continue-1 g c text stands =
     let w = desk_view c.pass_line_over.new.self in
     let so = c.loop.invariant text stands in
     let next = c.cut.ensures.line c.in-Line.is so.rest so.stands in
-    passes_more s text c.cut.new.self.line c.loop.lines c.cut.new.self v mid w so next.0 (line_passes s c.cut.new.self.line mid w next.1 (subst (λ (t : List ℕ). PassesLine s t mid w) c.line.ensures c.in_ok-pass_line_over-in-Line.ensures.ok))
+    passes_more s text c.cut.new.self.line c.loop.lines c.cut.new.self v mid w so next.0 (line_passes s c.cut.new.self.line mid w next.1 (subst (λ (t : List ℕ). PassesShort s t mid w) c.line.ensures c.in_ok-pass_line_over-in-Line.ensures.ok))
 
 pub loop-preserved : goal.loop-preserved
 loop-preserved g c text stands =

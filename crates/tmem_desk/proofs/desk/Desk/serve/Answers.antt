@@ -22,7 +22,7 @@ pub returns-in-Ok-clause-told : goal.returns-in-Ok-clause-told
 returns-in-Ok-clause-told g c =
     unprinted_texts _ (store g.N.Naming.name.start g.N.StoreNaming.opening g.N.ProgramNaming.program g.N.ServedNaming.arities g.N.ServedNaming.always) (λ (text : List ℕ) (texts : List (List ℕ)). Splits (text ++ c.args.piece.now) texts c.run.new.lines)
     (λ (text : List ℕ). RunsPiece (store g.N.Naming.name.start g.N.StoreNaming.opening g.N.ProgramNaming.program g.N.ServedNaming.arities g.N.ServedNaming.always) (text ++ c.args.piece.now) c.run.new.lines (desk_view c.args.self.now)) (desk_view c.args.self.now) (desk_view c.run.new.self) (desk_view c.give.new.self) (Appends (g.W.Write.contents c.args.out.now) (g.W.Write.contents c.give.new.out)) c.give.result
-    (λ text stands. c.in-Ok.ensures.runs (text ++ c.args.piece.now) (at_success c.add.result (sym c.is_err.ensures.value ∙ c.if-is_err.false) c.add.ensures.ok text stands)) c.give.ensures.err
+    (λ text stands. c.in-Ok.ensures.runs (text ++ c.args.piece.now) (at_success c.add.result (sym c.is_err.ensures.value ∙ c.if-is_err.false) c.add.ensures.ok text stands)) c.give.ensures.pass c.give.ensures.err
 
 pub returns-in-Err-clause-told : goal.returns-in-Err-clause-told
 returns-in-Err-clause-told g c =
