@@ -80,6 +80,9 @@ const NO_COPY: &str =
 const ON_A_DEVICE: &str =
     "it is a block device: copy its bytes to a file instead of moving it away, and then write the older copy onto it (dd)";
 
+const SHORT_DEVICE: &str =
+    "it is a block device, and too short for the store: look why (lsblk, losetup -l), and make it as long as it was, before anything is written onto it";
+
 const UNSEEN: &str = "what is there could not be looked at";
 
 const EMPTY_STORE: &str =
@@ -280,6 +283,19 @@ fn tell_block<E: Write>(
     }
 }
 
+// Tells what to do before that, where a block device has too few bytes.
+fn tell_short_block<E: Write>(
+    rt: &(impl Files<File = File> + AllocGlobal),
+    asked: Asked,
+    err: &mut E,
+) -> io::Result<()> {
+    if is_block_device(rt, asked) {
+        tell_of(err, asked, SHORT_DEVICE)
+    } else {
+        Ok(())
+    }
+}
+
 // Tells that requests may be done, where a store may have been served before the fault.
 fn tell_doubt<E: Write>(fault: Fault, err: &mut E) -> io::Result<()> {
     match fault {
@@ -300,7 +316,7 @@ fn tell_store<E: Write>(
         return tell_of(err, asked, A_STORE);
     }
     tell_of(err, asked, CUT_STORE)?;
-    tell_block(rt, asked, err)
+    tell_short_block(rt, asked, err)
 }
 
 // Tells what is there where a store was to be made and none is.
@@ -530,10 +546,18 @@ fn tell_layout<E: Write>(
     err: &mut E,
 ) -> io::Result<()> {
     match found_in(rt, asked, layout) {
-        Some(help) => tell_of(err, asked, help)?,
-        None => tell_of(err, asked, FaultHelp(Fault::Geometry))?,
+        Some(help) => {
+            tell_of(err, asked, help)?;
+            match help {
+                NumbersHelp::Other { .. } => tell_block(rt, asked, err),
+                _ => tell_short_block(rt, asked, err),
+            }
+        }
+        None => {
+            tell_of(err, asked, FaultHelp(Fault::Geometry))?;
+            tell_block(rt, asked, err)
+        }
     }
-    tell_block(rt, asked, err)
 }
 
 // Tells where a store ends too soon of which no numbers were asked, or none that are known still, and of a new one that it has no room.
@@ -544,11 +568,11 @@ fn tell_cut_off<E: Write>(
 ) -> io::Result<()> {
     if let Asked::Init(_) = asked {
         tell_of(err, asked, TOO_SHORT)?;
-        return tell_block(rt, asked, err);
+        return tell_short_block(rt, asked, err);
     }
     if let Some((path, _)) = store_of(asked) {
         if tell_bytes(rt, path, shows(asked), err)? {
-            return tell_block(rt, asked, err);
+            return tell_short_block(rt, asked, err);
         }
     }
     tell_of(err, asked, FaultHelp(Fault::Geometry))?;
