@@ -14,6 +14,9 @@ use std::alloc::{AllocError, Global};
 // What `--version` prints behind the program's name.
 const VERSION: &str = "1.0.0";
 
+/// The file of the timed stores, where the words name none.
+pub const JOBS_STORE: &str = "tmem-bench.store";
+
 /// The files that a command line names.
 #[derive(Clone, Copy)]
 pub struct Paths<'a> {

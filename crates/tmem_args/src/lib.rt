@@ -5,5 +5,6 @@
 mod args;
 
 pub use args::{
-    Asked, Counting, Invocation, Making, Paths, Serving, Showing, Timing, asked_of, reads_plainly,
+    Asked, Counting, Invocation, JOBS_STORE, Making, Paths, Serving, Showing, Timing, asked_of,
+    reads_plainly,
 };

@@ -15,6 +15,11 @@ use Rattle.tmem_file.specs.Opening.{IsFreshlyOpened}
 use Rattle.tmem_file.specs.declared.disk.FileDisk.{FileDisk}
 use Rattle.tmem_init.specs.Content.{IsNewStore}
 use Rattle.tmem_serve.specs.Stores.{OpensAndServes}
+use Rattle.tmem_serve.specs.declared.error.ServeError.{ServeError}
+use Rattle.tmem_serve.specs.declared.error.ServeError.TheVariants as error
+use Rattle.tmem_desk.specs.declared.failure.DeskFailure.TheVariants as desk
+use Rattle.tmem_advice.specs.declared.failure.StoreFailure.{StoreFailure}
+use Rattle.tmem_advice.specs.declared.failure.StoreFailure.TheVariants as store
 use Rattle.tmem_run.specs.Builtin.{builtin_arities}
 
 -- the names of invariants, and of those of them that always hold
@@ -57,3 +62,9 @@ pub record ServesShape (text : List ℕ) (unread rest before after : Option (Lis
 -- a store was served under the shape of a text
 abbrev pub ServesAnyShape : Option (List ℕ) → Option (List ℕ) → Option (List ℕ) → Option (List ℕ) → Type 0
 ServesAnyShape unread rest before after = (text : List ℕ) × ServesShape text unread rest before after
+
+-- what the user is told where a store was not served to the end of its input
+abbrev pub store_failure_of : ServeError → StoreFailure
+store_failure_of (error.Unregistered name) = store.Unregistered name
+store_failure_of (error.Ended (desk.Fault fault)) = store.Ended fault
+store_failure_of (error.Ended desk.Output) = store.Output

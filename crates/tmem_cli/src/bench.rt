@@ -7,12 +7,9 @@ use std::io::Write;
 use std::rt::Clock;
 use std::sync::Wait;
 use std::thread::Threads;
-use tmem_args::Timing;
+use tmem_args::{JOBS_STORE, Timing};
 use tmem_bench::{BenchError, JobsWanted, run_jobs};
 use tmem_script::ProgramFailure;
-
-// The file of the timed stores, where the words name none.
-pub(crate) const STORE: &str = "tmem-bench.store";
 
 // How many milliseconds a job goes on, where the words do not say it.
 const MILLIS: u16 = 1000;
@@ -26,7 +23,7 @@ pub(crate) fn run_bench<
     ensures failed { IfErr result IsWhyNotTimed }
 {
     let wanted = JobsWanted {
-        path: timing.disk.unwrap_or(STORE),
+        path: timing.disk.unwrap_or(JOBS_STORE),
         millis: timing.millis.unwrap_or(MILLIS),
         job: timing.job,
     };

@@ -3,8 +3,8 @@ ghost use Rattle.std.specs.Prelude.{OnOk, IfOk};
 ghost use Rattle.tmem_file.specs.FileView.{file_view};
 ghost use Rattle.tmem_cli.specs.Shaped.{IsStoreOf, MakesStore};
 
-use crate::failure::StoreFailure;
 use std::fs::{self, File, Files};
+use tmem_advice::StoreFailure;
 use tmem_args::Making;
 use tmem_builtins::stored_steps;
 use tmem_fault::Fault;

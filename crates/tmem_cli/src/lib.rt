@@ -2,15 +2,12 @@
 //! times the jobs of a service; or it shows what is in a store, makes one of a shape, or serves one; or it checks a script.
 //!
 //! `words` does what the words of a command line say: `count` lets threads count up, `bench` has the jobs timed, `show` shows a store,
-//! `init` makes one, and `serve` serves one. `check` says what is wrong with a script, and `explain` more of what failed.
+//! `init` makes one, and `serve` serves one. `check` says what is wrong with a script.
 #![tactic(auto)]
 
 mod bench;
 mod check;
 mod count;
-mod explain;
-mod failure;
-mod found;
 mod init;
 mod serve;
 mod show;

@@ -1,22 +1,23 @@
 //! Serves a store over standard input and output.
-ghost use Rattle.std.specs.Prelude.{OnOk};
+ghost use Rattle.std.specs.Prelude.{◌≡◌, OnOk};
 ghost use Rattle.std.specs.Io.KnownBytes.{IsAtEnd};
 ghost use Rattle.tmem_file.specs.FileView.{file_view};
 ghost use Rattle.tmem_serve.specs.Stores.{OpensAndServes};
 ghost use Rattle.tmem_run.specs.Builtin.{builtin_arities};
-ghost use Rattle.tmem_cli.specs.Shaped.{ServesShape, ServesAnyShape, always_in, program_of};
+ghost use Rattle.tmem_cli.specs.Shaped.{ServesShape, ServesAnyShape, always_in, program_of, store_failure_of};
 
-use crate::failure::StoreFailure;
 use crate::init::text_in;
 use std::fs::{File, Files};
 use std::io::{Read, Write};
 use std::sync::Wait;
+use tmem_advice::StoreFailure;
 use tmem_args::Serving;
 use tmem_builtins::stored_steps;
+use tmem_desk::DeskFailure;
 use tmem_file::FileDisk;
 use tmem_linear::LinearTable;
 use tmem_record::Layout;
-use tmem_serve::{InputEnd, Served, serve_store};
+use tmem_serve::{InputEnd, ServeError, Served, serve_store};
 use tmem_shape::StoreShape;
 
 /// Opens a store with its shape, and answers the requests of the input until it ends. `Input` where a read of it failed.
@@ -90,8 +91,20 @@ fn serve_on<I: Read, W: Write>(
         names: &names,
         always: &always,
     };
-    match serve_store(rt, alloc, disk, served, table, stored_steps(), input, out)? {
-        InputEnd::Reached => Ok(()),
-        InputEnd::Failed => Err(StoreFailure::Input),
+    match serve_store(rt, alloc, disk, served, table, stored_steps(), input, out) {
+        Ok(InputEnd::Reached) => Ok(()),
+        Ok(InputEnd::Failed) => Err(StoreFailure::Input),
+        Err(error) => Err(store_failure(&error)),
+    }
+}
+
+// What the user is told of a store that was not served to the end of its input.
+fn store_failure(error: &ServeError) -> StoreFailure
+    ensures { result ≡ store_failure_of error.now }
+{
+    match error {
+        ServeError::Unregistered(name) => StoreFailure::Unregistered(*name),
+        ServeError::Ended(DeskFailure::Fault(fault)) => StoreFailure::Ended(*fault),
+        ServeError::Ended(DeskFailure::Output) => StoreFailure::Output,
     }
 }

@@ -12,8 +12,6 @@ ghost use Rattle.tmem_cli.specs.Outcomes.{IsDone, IsFailed, HasNoScript, CountsU
 use crate::bench::run_bench;
 use crate::check::check;
 use crate::count::{TotalsText, count_on};
-use crate::explain::{explain, explain_check, explain_store};
-use crate::failure::StoreFailure;
 use crate::init::init_store;
 use crate::serve::serve;
 use crate::show::show_store;
@@ -24,6 +22,7 @@ use std::io::{Read, Write};
 use std::rt::Clock;
 use std::sync::Wait;
 use std::thread::Threads;
+use tmem_advice::{StoreFailure, explain_check, explain_run, explain_store};
 use tmem_args::{Asked, Counting, Invocation, Making, Paths, Serving, Showing, Timing, asked_of};
 use tmem_run::{Notes, Played, play, print_line};
 use tmem_script::{ProgramFailure, Script, ScriptError, WordsError, report};
@@ -122,7 +121,7 @@ fn conclude<E: Write>(
 {
     let status = tell(&outcome, err);
     if told.explains {
-        explain(rt, told.asked, notes, &outcome, err);
+        explain_run(rt, told.asked, notes, &outcome, err);
     }
     status
 }

@@ -70,7 +70,7 @@ call_help call.NoRoom = codes "there is no room on its file system, or no quota 
 call_help call.LongName = codes "the path or its last part is too long; name one whose last part has at most 250 bytes, for init 245 (STORE.json)"
 call_help call.Limit = codes "this process may not write a file so long (ulimit -f); raise that limit, and run the program again"
 call_help call.Circle = codes "links on this path lead in a circle; mend them, or name the file"
-call_help call.DiskError = codes "the disk reports an error (EIO); look into the system's log (dmesg); copy a file that was there to another disk by cp, which skips nothing, and only if that fails, or tmem show finds the copy not whole, use an older one (what that lacks is lost); make a new file on another disk only if there was none"
+call_help call.DiskError = codes "the disk reports an error (EIO); look into the system's log (dmesg); copy what was there to another disk, a file by cp, of a block device the first 286720 bytes by dd iflag=direct with bs as blockdev --getss tells (which skip nothing), and use that if it was copied to its end or, of a store, if tmem show finds it whole; only else use an older copy (what that lacks is lost); make a new file on another disk only if there was none"
 call_help call.Other = codes "a call on it failed, for a reason that this look does not show; look at its rights, at room (df), at limits (ulimit -f, ulimit -n), whether the device is read-only, and into the system's log (dmesg)"
 
 -- why a file could not be used, and what to do
@@ -88,6 +88,6 @@ device_help cause.NoFolder = codes "a part of this path, or of a link on it, is 
 device_help cause.Slash = codes "it ends in /, as the path of a folder does; name a file"
 device_help cause.ClosedFolder = codes "this user may not make a file in its folder, or not read it, as its sync needs; change the folder's rights or attributes (lsattr), or name a path in another"
 device_help cause.NoLinks = codes "its file system makes no hard links, by which a new file gets its name; name a path on another"
-device_help cause.NoBytes = codes "the device has 0 bytes; look whether anything is attached to it"
+device_help cause.NoBytes = codes "the device has 0 bytes; look whether anything is attached to it, or what should be to another one (lsblk, losetup -l)"
 device_help cause.SecondName = codes "it has a second name, as a new file NAME (readlink -f tells it) has NAME.new0 until its folder is synced, and that sync failed; if this user may not read the folder, change that, or let one who may do it (sync FOLDER), and then remove NAME.new0, never NAME, and only if ls -i shows the same number for both (find FOLDER -samefile NAME tells other names); if it fails otherwise, look into the system's log (dmesg)"
 device_help (cause.Call c) = call_help c

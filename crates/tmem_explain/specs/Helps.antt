@@ -14,13 +14,13 @@ fault_help fault.Memory = codes "memory did not suffice, or no thread could be s
 fault_help fault.Device = codes "a call on the file failed, or a sync of it failed before, and this process makes none any more; look at its rights, at room (df), at limits (ulimit -f, ulimit -n), whether the device is read-only, and into the system's log (dmesg); then open the store again, and see what it has before anything is repeated"
 fault_help fault.Closed = codes "an earlier failure has closed the store: a call on its file failed, or it could not be opened again; mend that, open the store again, and see what it has before anything is repeated"
 fault_help fault.Unknown =
-    codes "a write or sync failed; of a flush, all of the batch is durable, or none of it; a checkpoint puts no transaction in doubt; repeat nothing yet: open the store again, after an error of the disk (dmesg) once the machine was started anew, and see how many transactions there are"
+    codes "a write or sync failed; of a flush, all of the batch is durable, or none of it; a checkpoint puts no transaction in doubt; repeat nothing yet: open the store again, after an error of the disk (dmesg) once the machine was started anew, and see how many transactions there are; if writes fail again, look for room, also below the device (df, lvs), or end each program that uses the store, copy it to another disk, and use that copy alone from then on"
 fault_help fault.Full = codes "256 transactions wait to be durable; flush, and settle again"
 fault_help fault.LogFull = codes "every slot of the log is used; make a checkpoint, and flush again"
 fault_help fault.Conflict = codes "a value that the transaction read has changed; begin it again"
-fault_help fault.NotFormatted = codes "this does not begin as a store; check the path; only if a store was there, move this away, and put a copy in its place (what the copy lacks is lost)"
+fault_help fault.NotFormatted = codes "this does not begin as a store; check the path; only if a store was there, move this away, and put a copy in its place (what the copy lacks is lost); only if there never was one, make one by tmem init"
 fault_help fault.Damaged =
-    codes "the file is not as tmem leaves one: something else changed it, or a later version of tmem wrote it; run that version, or else move the file away and put a copy in its place (nothing repairs it, and what the copy lacks is lost)"
+    codes "the file is not as tmem leaves one: something else changed it, or a later version of tmem wrote it; run that version, or else move the file away and put a copy in its place (tmem does not repair it, and what the copy lacks is lost)"
 fault_help (fault.Missing name) =
     codes "the invariant " ++ name ++ codes " is registered in the store, and this program or shape has none of this name; check the paths of the store and of the shape or script; if they are the ones, open the store with the program or shape that used it last, as that was then; only if that had none of this name, too, something changed the file: move it away, and put a copy in its place (what the copy lacks is lost)"
 fault_help (fault.Broken name) =

@@ -111,7 +111,7 @@ impl fmt::Display for CallCause {
                 "this process may not write a file so long (ulimit -f); raise that limit, and run the program again",
             CallCause::Circle => "links on this path lead in a circle; mend them, or name the file",
             CallCause::DiskError =>
-                "the disk reports an error (EIO); look into the system's log (dmesg); copy a file that was there to another disk by cp, which skips nothing, and only if that fails, or tmem show finds the copy not whole, use an older one (what that lacks is lost); make a new file on another disk only if there was none",
+                "the disk reports an error (EIO); look into the system's log (dmesg); copy what was there to another disk, a file by cp, of a block device the first 286720 bytes by dd iflag=direct with bs as blockdev --getss tells (which skip nothing), and use that if it was copied to its end or, of a store, if tmem show finds it whole; only else use an older copy (what that lacks is lost); make a new file on another disk only if there was none",
             CallCause::Other =>
                 "a call on it failed, for a reason that this look does not show; look at its rights, at room (df), at limits (ulimit -f, ulimit -n), whether the device is read-only, and into the system's log (dmesg)",
         })
@@ -149,7 +149,7 @@ impl fmt::Display for DeviceCause {
             DeviceCause::NoLinks =>
                 "its file system makes no hard links, by which a new file gets its name; name a path on another",
             DeviceCause::NoBytes =>
-                "the device has 0 bytes; look whether anything is attached to it",
+                "the device has 0 bytes; look whether anything is attached to it, or what should be to another one (lsblk, losetup -l)",
             DeviceCause::SecondName =>
                 "it has a second name, as a new file NAME (readlink -f tells it) has NAME.new0 until its folder is synced, and that sync failed; if this user may not read the folder, change that, or let one who may do it (sync FOLDER), and then remove NAME.new0, never NAME, and only if ls -i shows the same number for both (find FOLDER -samefile NAME tells other names); if it fails otherwise, look into the system's log (dmesg)",
             DeviceCause::Call(cause) => return write!(f, "{cause}"),

@@ -29,7 +29,7 @@ impl fmt::Display for FaultHelp {
             ),
             Fault::Unknown => write!(
                 f,
-                "a write or sync failed; of a flush, all of the batch is durable, or none of it; a checkpoint puts no transaction in doubt; repeat nothing yet: open the store again, after an error of the disk (dmesg) once the machine was started anew, and see how many transactions there are"
+                "a write or sync failed; of a flush, all of the batch is durable, or none of it; a checkpoint puts no transaction in doubt; repeat nothing yet: open the store again, after an error of the disk (dmesg) once the machine was started anew, and see how many transactions there are; if writes fail again, look for room, also below the device (df, lvs), or end each program that uses the store, copy it to another disk, and use that copy alone from then on"
             ),
             Fault::Full => write!(
                 f,
@@ -45,11 +45,11 @@ impl fmt::Display for FaultHelp {
             ),
             Fault::NotFormatted => write!(
                 f,
-                "this does not begin as a store; check the path; only if a store was there, move this away, and put a copy in its place (what the copy lacks is lost)"
+                "this does not begin as a store; check the path; only if a store was there, move this away, and put a copy in its place (what the copy lacks is lost); only if there never was one, make one by tmem init"
             ),
             Fault::Damaged => write!(
                 f,
-                "the file is not as tmem leaves one: something else changed it, or a later version of tmem wrote it; run that version, or else move the file away and put a copy in its place (nothing repairs it, and what the copy lacks is lost)"
+                "the file is not as tmem leaves one: something else changed it, or a later version of tmem wrote it; run that version, or else move the file away and put a copy in its place (tmem does not repair it, and what the copy lacks is lost)"
             ),
             Fault::Missing(name) => write!(
                 f,

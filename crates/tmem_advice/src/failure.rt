@@ -3,25 +3,27 @@ use std::alloc::{AllocError, AllocFailed};
 use std::fmt;
 use std::io::{self, ErrorKind};
 use thiserror::Error;
-use tmem_desk::DeskFailure;
-use tmem_fault::Fault;
+use tmem_fault::{Fault, Name};
 use tmem_init::InitError;
-use tmem_serve::ServeError;
 use tmem_shape::ShapeError;
 
 /// Why a store was not made, or not served to its end. Its text is what the user is told.
 #[derive(Debug, Drop, Error)]
-pub(crate) enum StoreFailure {
+pub enum StoreFailure {
     /// The file of the shape cannot be read.
     Unread,
     /// What it has is no shape.
     NoShape(ShapeError),
     /// The store was not made.
     NotMade(InitError),
-    /// The opening was refused, the device failed, or there was not enough memory.
+    /// The numbers, the path or the file were refused before an opening, a call on the file failed, or there was not enough memory.
     Refused(Fault),
-    /// The store was not served to the end of its input.
-    NotServed(ServeError),
+    /// This invariant always holds by the shape, but is not registered in the store. Nothing was read or printed.
+    Unregistered(Name),
+    /// The store was not opened, or serving it ended early, by this fault.
+    Ended(Fault),
+    /// What was told while it was served could not be printed.
+    Output,
     /// A read of its input failed.
     Input,
 }
@@ -33,18 +35,14 @@ impl fmt::Display for StoreFailure {
             StoreFailure::NoShape(error) => write!(f, "bad shape: {error}"),
             StoreFailure::NotMade(error) => write!(f, "{error}"),
             StoreFailure::Refused(fault) => write!(f, "{fault}"),
-            StoreFailure::NotServed(ServeError::Unregistered(name)) => {
+            StoreFailure::Unregistered(name) => {
                 write!(
                     f,
                     "{name} always holds by the shape, but is not registered in the store"
                 )
             }
-            StoreFailure::NotServed(ServeError::Ended(DeskFailure::Fault(fault))) => {
-                write!(f, "{fault}")
-            }
-            StoreFailure::NotServed(ServeError::Ended(DeskFailure::Output)) => {
-                write!(f, "output failed")
-            }
+            StoreFailure::Ended(fault) => write!(f, "{fault}"),
+            StoreFailure::Output => write!(f, "output failed"),
             StoreFailure::Input => write!(f, "input failed"),
         }
     }
@@ -90,11 +88,5 @@ impl From<AllocError> for StoreFailure {
 impl<T: Drop> From<AllocFailed<T>> for StoreFailure {
     fn from(_error: AllocFailed<T>) -> StoreFailure {
         StoreFailure::Refused(Fault::Memory)
-    }
-}
-
-impl From<ServeError> for StoreFailure {
-    fn from(error: ServeError) -> StoreFailure {
-        StoreFailure::NotServed(error)
     }
 }

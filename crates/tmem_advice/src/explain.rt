@@ -6,14 +6,13 @@
 use crate::failure::StoreFailure;
 use crate::found::{
     begins_as_store, has_no_bytes, is_block_device, is_damaged, is_store, is_store_empty,
-    is_whole_store, shape_beside, store_of, text_again,
+    is_whole_store, refusal_at, shape_beside, store_of, text_again,
 };
 use std::alloc::Global;
 use std::fmt::Display;
 use std::fs::{File, Files};
 use std::io::{self, Write};
 use tmem_args::Asked;
-use tmem_desk::DeskFailure;
 use tmem_explain::{
     CUT_OFF, CallCause, DeviceCause, Expected, FaultHelp, NumbersHelp, RefusalHelp, Wanted,
     cause_of, flaws_in, is_cut_off, plan_flaw,
@@ -24,9 +23,8 @@ use tmem_parts::block_of;
 use tmem_record::{Layout, MOST_SLOTS, MOST_VARS};
 use tmem_run::{Notes, Refused};
 use tmem_script::{ProgramFailure, Script, ScriptError};
-use tmem_serve::ServeError;
 use tmem_shape::StoreShape;
-use tmem_show::{Source, refusal_of};
+use tmem_show::{Refusal, Source};
 
 const NO_OUTPUT: &str =
     "standard output took no more; look whether it is closed, or its reader has ended, and for room";
@@ -38,7 +36,7 @@ const NO_ANSWERS: &str =
     "standard output took no more; look whether it is closed, or its reader has ended, and for room; requests without an answer may be done: see what the store has before any is repeated";
 
 const UNSURE: &str =
-    "a write or sync failed; repeat nothing yet: open the store again, after an error of the disk (dmesg) once the machine was started anew";
+    "a write or sync failed; repeat nothing yet: open the store again, after an error of the disk (dmesg) once the machine was started anew; if writes fail again, look for room, also below the device (df, lvs), or end each program that uses the store, copy it to another disk, and use that copy alone from then on";
 
 const NOT_ANSWERED: &str =
     "if it had told opened, each request without an answer, or answered by this fault, may be done or not: open the store again, and see what it has before any is repeated";
@@ -58,7 +56,7 @@ const EMPTY_INPUT: &str = "standard input is empty";
 const NO_SHAPE: &str = "no store was touched; correct that place, and try again";
 
 const OTHER_TEXT: &str =
-    "a shape stands beside its store, as STORE.json, and what has that path is not this one; check the path; if a store was there, restore a copy of it; else move that shape away, or name another path";
+    "a shape stands beside its store, as STORE.json, and what has that path is not this one; check the path; only if there never was a store, move that shape away, or name another path";
 
 const TEXT_UNREAD: &str =
     "what has the path of its shape, STORE.json, cannot be read; look at its rights, or move it away";
@@ -74,19 +72,21 @@ const TOO_SHORT: &str =
 
 const NO_STORE: &str = "what is there is no store";
 
-const NO_COPY: &str =
-    "only if a store was there and is gone, put a copy there (what the copy lacks is lost)";
+const BEFORE_A_COPY: &str =
+    "if it is to be a block device, look whether it is attached, and under which name (lsblk, losetup -l); if the file has another name now, name that; if a program still has it open (lsof +L1), let that write no more, and copy the file out of /proc/PID/fd before it ends; only if there was a store, and it is nowhere else, put a copy there (what the copy lacks is lost)";
+
+const NONE_YET: &str = "if there never was one, make one by tmem init";
 
 const ON_A_DEVICE: &str =
-    "it is a block device: copy its bytes to a file instead of moving it away, and then write the older copy onto it (dd)";
+    "it is a block device, and names of devices change: look first whether it is the one, begins and ends at the right byte, and is not mounted (lsblk -b, losetup -l); to move it away means to copy its bytes to a file, and to put a copy in its place to write that onto it (dd)";
 
 const SHORT_DEVICE: &str =
-    "it is a block device, and too short for the store: look why (lsblk, losetup -l), and make it as long as it was, before anything is written onto it";
+    "it is a block device, and too short for the store; look first whether it is the one, and begins at the right byte (lsblk, losetup -l); if a store was on it, make it as long as it was, and try again, before anything is written onto it; if that cannot be, copy its bytes to a file, and put a copy of the store on another device that is long enough";
 
 const UNSEEN: &str = "what is there could not be looked at";
 
 const EMPTY_STORE: &str =
-    "the file is empty, and so no store; if a store was there, put a copy of it in its place; only else remove it";
+    "the file is empty, and so no store; check the path; only if there never was one, remove it, and make one by tmem init";
 
 const STORE_FOR_FILE: &str =
     "it is a store, and no shape; STORE is named first, and FILE, its shape, second; no store was touched";
@@ -97,13 +97,13 @@ const STORE_FOR_SHAPE: &str =
 const A_DEVICE: &str = "it is a block device; add --in-place to make a store on it";
 
 const PLACED_OR_NOT: &str =
-    "the device failed while the store was made on it, so it is made or not; look into the system's log (dmesg), start the machine anew after an error of the disk, and give the same words again: they make it, or say that the device is not blank, and then tmem show tells whether it is made; if it is not, fill those bytes with zeros and begin again";
+    "the device failed while the store was made on it, so it is made or not; look into the system's log (dmesg) and for room below the device (df, lvs), start the machine anew after an error of the disk, and give the same words again: they make it, or say that the device is not blank, and then tmem show tells whether it is made; if it is not, fill those bytes with zeros and begin again";
 
 const NOT_BLANK: &str =
     "it has bytes other than 0 where the store would be; if a store was there (which lsblk and mount do not show), copy these bytes to another file first, and then put a copy in their place (what the copy lacks is lost); else look what it is (lsblk, mount), and name another, or fill it with zeros only if nothing on it is needed";
 
 /// Tells more of why a run ended before its last line, and of each entry that was refused.
-pub(crate) fn explain<E: Write>(
+pub fn explain_run<E: Write>(
     rt: &(impl Files<File = File> + AllocGlobal),
     asked: Asked,
     notes: &Notes,
@@ -118,32 +118,15 @@ pub(crate) fn explain<E: Write>(
     let _ = explain_entries(rt, asked, notes, err);
 }
 
-// Tells which byte of a store an opening refuses, and what to do. Answers whether there is one. (A store is shown without its lock: what
-// another program writes meanwhile is read in part.)
-fn tell_bytes<E: Write>(
-    rt: &(impl Files<File = File> + AllocGlobal),
-    path: &str,
-    is_shown: bool,
-    err: &mut E,
-) -> io::Result<bool> {
-    let Ok(source) = Source::read(rt, path) else {
-        return Ok(false);
-    };
-    let Ok(Some(refusal)) = refusal_of(rt.alloc(), &source) else {
-        return Ok(false);
-    };
+// Tells which byte of a store an opening refuses, and what to do. (A store is shown without its lock: what another program writes meanwhile
+// is read in part.)
+fn tell_bytes<E: Write>(err: &mut E, asked: Asked, path: &str, refusal: Refusal) -> io::Result<()> {
     let help = RefusalHelp {
         fault: refusal.fault,
         is_of_no_store: refusal.is_of_no_store(),
-        is_shown,
+        is_shown: matches!(asked, Asked::Show(_)),
     };
-    tell(err, format_args!("{path}: {refusal}: {help}"))?;
-    Ok(true)
-}
-
-// Whether a store is to be shown.
-fn shows(asked: Asked) -> bool {
-    matches!(asked, Asked::Show(_))
+    tell(err, format_args!("{path}: {refusal}: {help}"))
 }
 
 // Whether transactions are made durable in a file.
@@ -169,10 +152,7 @@ fn explain_failure<E: Write>(
         ProgramFailure::Script(ScriptError::NoScript) => tell_flaw(rt.alloc(), notes.text(), err),
         ProgramFailure::Script(ScriptError::Unreadable) => tell_unread(rt, asked, err),
         ProgramFailure::Script(ScriptError::Memory(_)) => tell(err, FaultHelp(Fault::Memory)),
-        ProgramFailure::Refused(fault) => {
-            tell_refused(rt, asked, notes, *fault, err)?;
-            tell_device_too(rt, asked, *fault, err)
-        }
+        ProgramFailure::Refused(fault) => tell_fault(rt, asked, notes, *fault, err),
         ProgramFailure::Output if changes_store(asked) => tell(err, NO_LINES),
         ProgramFailure::Output => tell(err, NO_OUTPUT),
         ProgramFailure::Clock => tell(err, NO_CLOCK),
@@ -192,7 +172,7 @@ fn tell_empty<E: Write>(asked: Asked, err: &mut E) -> io::Result<()> {
 }
 
 /// Tells more of why a script was not checked.
-pub(crate) fn explain_check<E: Write>(
+pub fn explain_check<E: Write>(
     rt: &(impl Files<File = File> + AllocGlobal),
     asked: Asked,
     failure: &ProgramFailure,
@@ -204,7 +184,7 @@ pub(crate) fn explain_check<E: Write>(
 }
 
 /// Tells more of why a store was not made, or not served to its end.
-pub(crate) fn explain_store<E: Write>(
+pub fn explain_store<E: Write>(
     rt: &(impl Files<File = File> + AllocGlobal),
     asked: Asked,
     failure: &StoreFailure,
@@ -225,12 +205,10 @@ fn explain_store_failure<E: Write>(
         StoreFailure::Unread => tell_unread(rt, asked, err),
         StoreFailure::NoShape(_) => tell_no_shape(rt, asked, err),
         StoreFailure::NotMade(InitError::Refused(fault)) | StoreFailure::Refused(fault) => {
-            tell_refused(rt, asked, &notes, *fault, err)?;
-            tell_device_too(rt, asked, *fault, err)
+            tell_fault(rt, asked, &notes, *fault, err)
         }
-        StoreFailure::NotServed(ServeError::Ended(DeskFailure::Fault(fault))) => {
-            tell_refused(rt, asked, &notes, *fault, err)?;
-            tell_device_too(rt, asked, *fault, err)?;
+        StoreFailure::Ended(fault) => {
+            tell_fault(rt, asked, &notes, *fault, err)?;
             tell_doubt(*fault, err)
         }
         StoreFailure::NotMade(InitError::StoreIsThere) if is_block_device(rt, asked) => {
@@ -240,37 +218,55 @@ fn explain_store_failure<E: Write>(
             if is_store(rt, asked) => { tell_store(rt, asked, err) }
         StoreFailure::NotMade(InitError::StoreIsThere | InitError::NotBlank)
             if is_damaged(rt, asked) => {
-            tell_refused(rt, asked, &notes, Fault::Damaged, err)?;
-            tell_block(rt, asked, err)
+            tell_block(rt, asked, err)?;
+            tell_refused(rt, asked, &notes, Fault::Damaged, err)
         }
         StoreFailure::NotMade(InitError::StoreIsThere) => tell_no_store(rt, asked, err),
-        StoreFailure::NotMade(InitError::NotBlank) => tell_of(err, asked, NOT_BLANK),
+        StoreFailure::NotMade(InitError::NotBlank) => {
+            tell_block(rt, asked, err)?;
+            tell_of(err, asked, NOT_BLANK)
+        }
         StoreFailure::NotMade(InitError::TextUnread(_)) => tell_of(err, asked, TEXT_UNREAD),
-        StoreFailure::NotMade(InitError::TextIsThere) => tell_of(err, asked, OTHER_TEXT),
-        StoreFailure::NotServed(ServeError::Unregistered(_)) => {
-            tell_of(err, asked, NOT_REGISTERED)?;
-            tell_block(rt, asked, err)
+        StoreFailure::NotMade(InitError::TextIsThere) => {
+            tell_of(err, asked, format_args!("{OTHER_TEXT}; {BEFORE_A_COPY}"))
+        }
+        StoreFailure::Unregistered(_) => {
+            tell_block(rt, asked, err)?;
+            tell_of(err, asked, NOT_REGISTERED)
         }
         StoreFailure::Input => tell(err, NO_INPUT),
-        StoreFailure::NotServed(ServeError::Ended(DeskFailure::Output)) => tell(err, NO_ANSWERS),
+        StoreFailure::Output => tell(err, NO_ANSWERS),
     }
 }
 
-// Tells how a copy gets to its place, where its bytes are refused as those of a store and that is a block device.
-fn tell_device_too<E: Write>(
+// Tells what a fault means. Where the bytes of a block device are refused as those of a store, it tells before that how a copy is put
+// there. (Of the numbers, `tell_geometry` does so. Of one on which a store was to be made, no bytes are refused so.)
+fn tell_fault<E: Write>(
     rt: &(impl Files<File = File> + AllocGlobal),
     asked: Asked,
+    notes: &Notes,
     fault: Fault,
     err: &mut E,
 ) -> io::Result<()> {
+    if refuses_bytes(fault) && !matches!(asked, Asked::Init(_)) {
+        tell_block(rt, asked, err)?;
+    }
+    tell_refused(rt, asked, notes, fault, err)
+}
+
+// Whether a fault may refuse the bytes of a store.
+fn refuses_bytes(fault: Fault) -> bool {
     match fault {
-        Fault::NotFormatted | Fault::Damaged | Fault::Missing(_) | Fault::Broken(_) | Fault::Spent
-            if !matches!(asked, Asked::Init(_)) => tell_block(rt, asked, err),
-        _ => Ok(()),
+        Fault::NotFormatted
+        | Fault::Damaged
+        | Fault::Missing(_)
+        | Fault::Broken(_)
+        | Fault::Spent => true,
+        _ => false,
     }
 }
 
-// The same, whatever is refused.
+// Of a block device with bytes, tells to look whether it is the one, and how a copy is put there.
 fn tell_block<E: Write>(
     rt: &(impl Files<File = File> + AllocGlobal),
     asked: Asked,
@@ -283,7 +279,20 @@ fn tell_block<E: Write>(
     }
 }
 
-// Tells what to do before that, where a block device has too few bytes.
+// The same, where its disk reports an error.
+fn tell_failing_block<E: Write>(
+    rt: &(impl Files<File = File> + AllocGlobal),
+    asked: Asked,
+    cause: DeviceCause,
+    err: &mut E,
+) -> io::Result<()> {
+    match cause {
+        DeviceCause::Call(CallCause::DiskError) => tell_block(rt, asked, err),
+        _ => Ok(()),
+    }
+}
+
+// Of what has too few bytes, tells what to do before all else where it is a block device.
 fn tell_short_block<E: Write>(
     rt: &(impl Files<File = File> + AllocGlobal),
     asked: Asked,
@@ -315,8 +324,8 @@ fn tell_store<E: Write>(
     if is_whole_store(rt, asked) {
         return tell_of(err, asked, A_STORE);
     }
-    tell_of(err, asked, CUT_STORE)?;
-    tell_short_block(rt, asked, err)
+    tell_short_block(rt, asked, err)?;
+    tell_of(err, asked, CUT_STORE)
 }
 
 // Tells what is there where a store was to be made and none is.
@@ -332,7 +341,7 @@ fn tell_no_store<E: Write>(
         DeviceCause::Call(CallCause::Other) => tell(
             err,
             format_args!(
-                "{path}: {NO_STORE}; if a store was there, move this away, and put a copy in its place (what the copy lacks is lost); else move it away, or name another path"
+                "{path}: {NO_STORE}; check the path; move this away, or name another path; {BEFORE_A_COPY}"
             ),
         ),
         DeviceCause::Call(cause) => tell(err, format_args!("{path}: {UNSEEN}: {cause}")),
@@ -458,12 +467,10 @@ fn tell_refused<E: Write>(
             asked,
             PLACED_OR_NOT,
         ),
-        (Fault::Damaged | Fault::NotFormatted, Some((path, _))) => {
-            if tell_bytes(rt, path, shows(asked), err)? {
-                return Ok(());
-            }
-            tell_of(err, asked, FaultHelp(fault))
-        }
+        (Fault::Damaged | Fault::NotFormatted, Some((path, _))) => match refusal_at(rt, path) {
+            Some(refusal) => tell_bytes(err, asked, path, refusal),
+            None => tell_of(err, asked, FaultHelp(fault)),
+        },
         (Fault::Geometry, _) => tell_geometry(rt, asked, notes, err),
         (Fault::Broken(name), _) if matches!(asked, Asked::Init(_)) => tell(
             err,
@@ -493,6 +500,7 @@ fn tell_device<E: Write>(
             }
         }
     }
+    tell_failing_block(rt, asked, cause, err)?;
     tell_store_cause(err, path, cause)
 }
 
@@ -524,7 +532,7 @@ fn tell_geometry<E: Write>(
         return tell_of(err, asked, DeviceCause::NoBytes);
     }
     if is_store_empty(rt, asked) {
-        return tell_of(err, asked, EMPTY_STORE);
+        return tell_of(err, asked, format_args!("{EMPTY_STORE}; {BEFORE_A_COPY}"));
     }
     if matches!(asked, Asked::Init(_)) && is_store(rt, asked) {
         return tell_store(rt, asked, err);
@@ -547,16 +555,13 @@ fn tell_layout<E: Write>(
 ) -> io::Result<()> {
     match found_in(rt, asked, layout) {
         Some(help) => {
-            tell_of(err, asked, help)?;
             match help {
-                NumbersHelp::Other { .. } => tell_block(rt, asked, err),
-                _ => tell_short_block(rt, asked, err),
+                NumbersHelp::Other { .. } => tell_block(rt, asked, err)?,
+                _ => tell_short_block(rt, asked, err)?,
             }
+            tell_of(err, asked, help)
         }
-        None => {
-            tell_of(err, asked, FaultHelp(Fault::Geometry))?;
-            tell_block(rt, asked, err)
-        }
+        None => tell_numbers(rt, asked, err),
     }
 }
 
@@ -567,16 +572,29 @@ fn tell_cut_off<E: Write>(
     err: &mut E,
 ) -> io::Result<()> {
     if let Asked::Init(_) = asked {
-        tell_of(err, asked, TOO_SHORT)?;
-        return tell_short_block(rt, asked, err);
+        tell_short_block(rt, asked, err)?;
+        return tell_of(err, asked, TOO_SHORT);
     }
     if let Some((path, _)) = store_of(asked) {
-        if tell_bytes(rt, path, shows(asked), err)? {
-            return tell_short_block(rt, asked, err);
+        if let Some(refusal) = refusal_at(rt, path) {
+            match refusal.fault {
+                Fault::Geometry => tell_short_block(rt, asked, err)?,
+                _ => tell_block(rt, asked, err)?,
+            }
+            return tell_bytes(err, asked, path, refusal);
         }
     }
-    tell_of(err, asked, FaultHelp(Fault::Geometry))?;
-    tell_block(rt, asked, err)
+    tell_numbers(rt, asked, err)
+}
+
+// Tells that the numbers were refused, where nothing that is there now shows why.
+fn tell_numbers<E: Write>(
+    rt: &(impl Files<File = File> + AllocGlobal),
+    asked: Asked,
+    err: &mut E,
+) -> io::Result<()> {
+    tell_block(rt, asked, err)?;
+    tell_of(err, asked, FaultHelp(Fault::Geometry))
 }
 
 // The numbers that were asked for, by a script or a shape.
@@ -613,7 +631,7 @@ fn numbers_of_shape(
     }
 }
 
-// The same, where its numbers or its bytes show it.
+// Why there is no store of this layout, or no new one is put there, where its numbers or its bytes show it.
 fn found_in(
     rt: &(impl Files<File = File> + AllocGlobal),
     asked: Asked,
@@ -643,8 +661,15 @@ fn explain_entries<E: Write>(
     err: &mut E,
 ) -> io::Result<()> {
     let path = store_of(asked).map(|found| found.0);
+    if notes
+        .refused()
+        .iter()
+        .any(|refused| refuses_bytes(refused.fault))
+    {
+        tell_block(rt, asked, err)?;
+    }
     for refused in notes.refused() {
-        explain_entry(rt, path, notes.text(), refused, err)?;
+        explain_entry(rt, asked, path, notes.text(), refused, err)?;
     }
     match (path, notes.lost()) {
         (Some(path), Some(lost)) => tell(err, format_args!("{path}: {lost}")),
@@ -654,6 +679,7 @@ fn explain_entries<E: Write>(
 
 fn explain_entry<E: Write>(
     rt: &(impl Files<File = File> + AllocGlobal),
+    asked: Asked,
     path: Option<&str>,
     text: &[u8],
     refused: &Refused,
@@ -664,7 +690,7 @@ fn explain_entry<E: Write>(
         return tell_plan(rt.alloc(), text, index, *cause, err);
     }
     if let (Fault::Device, Some(path)) = (&refused.fault, path) {
-        return tell_call(rt, path, index, err);
+        return tell_call(rt, asked, path, index, err);
     }
     tell_entry(err, index, refused.fault, FaultHelp(refused.fault))
 }
@@ -702,6 +728,7 @@ fn tell_plan<E: Write>(
 // Tells why a call for an entry failed, as far as the file still shows it.
 fn tell_call<E: Write>(
     rt: &(impl Files<File = File> + AllocGlobal),
+    asked: Asked,
     path: &str,
     index: usize,
     err: &mut E,
@@ -710,13 +737,17 @@ fn tell_call<E: Write>(
     if cause == DeviceCause::Call(CallCause::Other) {
         return tell_entry(err, index, Fault::Device, FaultHelp(Fault::Device));
     }
+    tell_failing_block(rt, asked, cause, err)?;
     tell_entry(err, index, Fault::Device, format_args!("{path}: {cause}"))
 }
 
 // Tells why the path of a store could not be used.
 fn tell_store_cause<E: Write>(err: &mut E, path: &str, cause: DeviceCause) -> io::Result<()> {
     match cause {
-        DeviceCause::Missing => tell(err, format_args!("{path}: {cause}; {NO_COPY}")),
+        DeviceCause::Missing => tell(
+            err,
+            format_args!("{path}: {cause}; {BEFORE_A_COPY}; {NONE_YET}"),
+        ),
         _ => tell_cause(err, path, cause),
     }
 }

@@ -1,15 +1,13 @@
 //! What has the path of a store, or of a shape, as it is now.
-use crate::bench::STORE;
 use crate::failure::StoreFailure;
-use crate::init::text_in;
 use std::alloc::Global;
 use std::fs::{self, File, Files};
 use std::os::unix::fs::FileTypeExt;
-use tmem_args::Asked;
+use tmem_args::{Asked, JOBS_STORE};
 use tmem_explain::Wanted;
 use tmem_fault::Fault;
 use tmem_parts::block_of;
-use tmem_show::{Source, refusal_of};
+use tmem_show::{Refusal, Source, refusal_of};
 
 /// The text in a file, which was read before. None where that was no file: a pipe would be empty now, or waited for.
 pub(crate) fn text_again(
@@ -17,7 +15,7 @@ pub(crate) fn text_again(
     path: &str,
 ) -> Option<Vec<u8>> {
     match fs::metadata(rt, path) {
-        Ok(found) if found.is_file() => text_in(rt, path).ok(),
+        Ok(found) if found.is_file() => fs::read(rt, path).ok(),
         _ => None,
     }
 }
@@ -30,17 +28,26 @@ pub(crate) fn is_store(rt: &(impl Files<File = File> + AllocGlobal), asked: Aske
     }
 }
 
+/// Why an opening refuses the bytes that have a path, and where. None where it does not, and where they cannot be read, or memory does not
+/// suffice to tell.
+pub(crate) fn refusal_at(
+    rt: &(impl Files<File = File> + AllocGlobal),
+    path: &str,
+) -> Option<Refusal> {
+    match Source::read(rt, path) {
+        Ok(source) => refusal_of(rt.alloc(), &source).ok()?,
+        Err(_) => None,
+    }
+}
+
 /// Whether an opening refuses what is there as a store that something changed, or that a later version wrote.
 pub(crate) fn is_damaged(rt: &(impl Files<File = File> + AllocGlobal), asked: Asked) -> bool {
     let Some((path, _)) = store_of(asked) else {
         return false;
     };
-    let Ok(source) = Source::read(rt, path) else {
-        return false;
-    };
-    match refusal_of(rt.alloc(), &source) {
-        Ok(Some(refusal)) => matches!(refusal.fault, Fault::Damaged),
-        _ => false,
+    match refusal_at(rt, path) {
+        Some(refusal) => matches!(refusal.fault, Fault::Damaged),
+        None => false,
     }
 }
 
@@ -104,7 +111,7 @@ pub(crate) fn store_of<'a>(asked: Asked<'a>) -> Option<(&'a str, Wanted)> {
     match asked {
         Asked::Run(paths) => Some((paths.disk?, Wanted::FoundOrMade)),
         Asked::Threads(counting) => Some((counting.disk?, Wanted::Made)),
-        Asked::Bench(timing) => Some((timing.disk.unwrap_or(STORE), Wanted::Made)),
+        Asked::Bench(timing) => Some((timing.disk.unwrap_or(JOBS_STORE), Wanted::Made)),
         Asked::Show(showing) => Some((showing.store?, Wanted::Read)),
         Asked::Init(making) if making.is_in_place => Some((making.store?, Wanted::Found)),
         Asked::Init(making) => Some((making.store?, Wanted::FoundOrMade)),
