@@ -44,6 +44,9 @@ const NOT_ANSWERED: &str =
 const NO_INPUT: &str =
     "standard input could not be read; give a file or a pipe (it may be closed, or a folder)";
 
+const PLAYED: &str =
+    "what the script made durable before and behind these entries is done; look what the store has, and play what is missing alone, not the whole script again";
+
 const NO_CLOCK: &str = "the system did not tell the time; try again";
 
 const NOT_REGISTERED: &str =
@@ -81,7 +84,7 @@ const ON_A_DEVICE: &str =
     "it is a block device, and names of devices change: look first whether it is the one, begins and ends at the right byte, and is not mounted (lsblk -b, losetup -l); to move it away means to copy its bytes to a file, and to put a copy in its place to write that onto it (dd)";
 
 const SHORT_DEVICE: &str =
-    "it is a block device, and too short for the store; look first whether it is the one, and begins at the right byte (lsblk, losetup -l); if a store was on it, make it as long as it was, and try again, before anything is written onto it; if that cannot be, copy its bytes to a file, and put a copy of the store on another device that is long enough";
+    "it is a block device, and too short for the store; look first whether it is the one, and begins at the right byte (lsblk, losetup -l); if a store was on it, make it as long as it was, and try again, before anything is written onto it; if that cannot be, copy its bytes to a file, and put an older copy, of the whole store, on another device that is long enough";
 
 const UNSEEN: &str = "what is there could not be looked at";
 
@@ -652,8 +655,8 @@ fn found_in(
     NumbersHelp::of_store(layout, had, source.size)
 }
 
-// Tells of each entry that was refused what its fault means, of a transaction which node breaks a limit, and of a call which cause. Then
-// what a run in a file committed and left that is not durable.
+// Tells of each entry that was refused what its fault means, of a transaction which node breaks a limit, and of a call which cause. Then,
+// of a run in a file, that the other entries were played, and what it committed and left that is not durable.
 fn explain_entries<E: Write>(
     rt: &(impl Files<File = File> + AllocGlobal),
     asked: Asked,
@@ -670,6 +673,9 @@ fn explain_entries<E: Write>(
     }
     for refused in notes.refused() {
         explain_entry(rt, asked, path, notes.text(), refused, err)?;
+    }
+    if let (Some(path), [_, ..]) = (path, notes.refused()) {
+        tell(err, format_args!("{path}: {PLAYED}"))?;
     }
     match (path, notes.lost()) {
         (Some(path), Some(lost)) => tell(err, format_args!("{path}: {lost}")),

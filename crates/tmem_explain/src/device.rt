@@ -111,7 +111,7 @@ impl fmt::Display for CallCause {
                 "this process may not write a file so long (ulimit -f); raise that limit, and run the program again",
             CallCause::Circle => "links on this path lead in a circle; mend them, or name the file",
             CallCause::DiskError =>
-                "the disk reports an error (EIO); look into the system's log (dmesg); copy what was there to another disk, a file by cp, of a block device the first 286720 bytes by dd iflag=direct with bs as blockdev --getss tells (which skip nothing), and use that if it was copied to its end or, of a store, if tmem show finds it whole; only else use an older copy (what that lacks is lost); make a new file on another disk only if there was none",
+                "the disk reports an error (EIO); look into the system's log (dmesg); copy what was there to a new file on another disk, not onto a device: a file by cp, of a block device the first 286720 bytes by dd iflag=direct with bs of blockdev --getss; use that if it was copied to its end or, of a store, if tmem show finds it whole; only else use an older copy (what that lacks is lost); make a new one only if there was none",
             CallCause::Other =>
                 "a call on it failed, for a reason that this look does not show; look at its rights, at room (df), at limits (ulimit -f, ulimit -n), whether the device is read-only, and into the system's log (dmesg)",
         })

@@ -63,7 +63,7 @@ lost_of c =
 -- what is told of that: where all of them are lost, and where the first ones may be durable
 abbrev pub gone_text : Lost → List ℕ
 gone_text lost =
-    codes "not durable, and so gone: " ++ (decimal lost.count ++ (codes " of the committed transactions, from number " ++ (decimal lost.first ++ codes " on: each that is not among the first N of the next `opened N`, or, if none follows, of the last `durable N` or `opened N`")))
+    codes "not durable, and so gone: " ++ (decimal lost.count ++ (codes " of the committed transactions, from number " ++ (decimal lost.first ++ codes " on: each that is not among the first N of the next `opened N`, or, if none follows, of the last `durable N` or `opened N` (a flush takes 64 at most)")))
 
 abbrev pub doubt_text : Lost → List ℕ
 doubt_text lost =

@@ -169,7 +169,7 @@ impl fmt::Display for Lost {
         } else {
             write!(
                 f,
-                "not durable, and so gone: {count} of the committed transactions, from number {first} on: each that is not among the first N of the next `opened N`, or, if none follows, of the last `durable N` or `opened N`"
+                "not durable, and so gone: {count} of the committed transactions, from number {first} on: each that is not among the first N of the next `opened N`, or, if none follows, of the last `durable N` or `opened N` (a flush takes 64 at most)"
             )
         }
     }
