@@ -20,6 +20,19 @@ pub(crate) fn call_each<R: Print>(rt: &R, alloc: Global) -> Result<(), Fault> {
     let mut disk = device(alloc)?;
     let mut batch = Batch::new(alloc)?;
     let mut bytes = vec![in alloc; 0u8; 4096]?;
+    call_over(rt, alloc, &mut disk, &mut batch, &mut bytes)
+}
+
+// The same, with these.
+fn call_over<R: Print>(
+    rt: &R,
+    alloc: Global,
+    disk: &mut SimDisk,
+    batch: &mut Batch,
+    bytes: &mut [u8],
+) -> Result<(), Fault>
+    requires { length bytes.old ≡ 4096 }
+{
     let footprint = vec![in alloc; 0]?;
     let test = Box::new(
         alloc,
@@ -28,19 +41,44 @@ pub(crate) fn call_each<R: Print>(rt: &R, alloc: Global) -> Result<(), Fault> {
             ensures { result ≡ is_not_negative values.now }
         { nonneg(values) },
     )?;
-    let _ = println!(rt; "device, batch, bytes, footprint and closure");
-    format(&mut disk, VARS, SLOTS)?;
-    let _ = println!(rt; "formatted");
-    call_gates(rt, &mut disk);
-    fill(rt, &mut batch, &mut bytes);
-    let name = Name::new("nonneg")?;
-    let _ = println!(rt; "name {name}");
-    let invariant = Invariant::new(name, footprint, test)?;
-    let _ = println!(rt; "invariant {}", invariant.name);
+    say(rt, "device, batch, bytes, footprint and closure");
+    call_on_device(rt, disk, batch, bytes)?;
+    let invariant = Invariant::new(made_name(rt)?, footprint, test)?;
+    say_name(rt, "invariant", &invariant.name);
     let table = Table::of(alloc, vec![in alloc; invariant]?, VARS)?;
-    let _ = println!(rt; "table");
+    say(rt, "table");
     call_tests(rt, &table);
     Ok(())
+}
+
+// The calls that are given a device, or a batch.
+fn call_on_device<R: Print>(
+    rt: &R,
+    disk: &mut SimDisk,
+    batch: &mut Batch,
+    bytes: &mut [u8],
+) -> Result<(), Fault>
+    requires { length bytes.old ≡ 4096 }
+{
+    format(disk, VARS, SLOTS)?;
+    say(rt, "formatted");
+    call_gates(rt, disk);
+    fill(rt, batch, bytes);
+    Ok(())
+}
+
+fn made_name<R: Print>(rt: &R) -> Result<Name, Fault> {
+    let name = Name::new("nonneg")?;
+    say_name(rt, "name", &name);
+    Ok(name)
+}
+
+fn say<R: Print>(rt: &R, what: &str) {
+    let _ = println!(rt; "{what}");
+}
+
+fn say_name<R: Print>(rt: &R, what: &str, name: &Name) {
+    let _ = println!(rt; "{what} {name}");
 }
 
 // The calls of a gate, which block 0 has at its start: it is open, and then closed.

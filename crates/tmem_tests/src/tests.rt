@@ -9,7 +9,10 @@ mod tables;
 mod turns;
 mod versions;
 
+ghost use Rattle.tmem_event.specs.Events.{NamesAttempt};
+
 use std::alloc::Global;
+use std::process::Abort;
 use tmem_disk::SimDisk;
 use tmem_fault::Fault;
 use tmem_invariants::Invariants;
@@ -71,4 +74,28 @@ fn commit<T: Invariants + Drop, S: StoredSteps + Drop>(
         }
     }
     Reply::Idle
+}
+
+/// The same, where this is to be its reply.
+fn commit_to<T: Invariants + Drop, S: StoredSteps + Drop>(
+    rt: &impl Abort,
+    world: &mut World<SimDisk, T, S>,
+    tx: Tx,
+    want: Reply,
+) {
+    let had = commit(world, tx);
+    assert!(rt; had == want, "{had:?} where {want:?} was wanted");
+}
+
+/// Makes a step, whose reply is to be this.
+fn step_to<T: Invariants + Drop, S: StoredSteps + Drop>(
+    rt: &impl Abort,
+    world: &mut World<SimDisk, T, S>,
+    event: Event,
+    want: Reply,
+)
+    requires { NamesAttempt event }
+{
+    let had = world.step(event);
+    assert!(rt; had == want, "{had:?} where {want:?} was wanted");
 }

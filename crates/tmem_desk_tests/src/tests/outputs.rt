@@ -204,18 +204,16 @@ fn serve_row<R: Abort + Wait>(rt: &R, alloc: Global, row: Row, by: ServedBy) -> 
 
 // Compares what an output took, and how serving ended, with what its row wants.
 fn compare<R: Abort>(rt: &R, out: Output, ends: ServingEnd) -> Result<(), Fail> {
-    let Output {
-        row,
-        taken,
-        flushed,
-        ..
-    } = out;
-    let name = row.name;
-    assert!(rt; ends == row.ends, "{name}: {ends:?}");
+    let is_wanted = ends == out.row.ends && has_taken(&out);
+    let (name, taken, flushed) = (out.row.name, out.taken, out.flushed);
     assert!(rt;
-        taken.as_slice() == row.takes.as_bytes(),
-        "{name}: {taken:?}"
+        is_wanted,
+        "{name}: {ends:?}, {taken:?}, flushed at {flushed:?}"
     );
-    assert!(rt; flushed.as_slice() == row.flushed, "{name}: {flushed:?}");
     Ok(())
+}
+
+// Whether an output took what its row wants, and that before the flushes that it wants.
+fn has_taken(out: &Output) -> bool {
+    out.taken.as_slice() == out.row.takes.as_bytes() && out.flushed.as_slice() == out.row.flushed
 }

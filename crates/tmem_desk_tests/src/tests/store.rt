@@ -13,7 +13,7 @@ use std::sync::Wait;
 use std::test::Fail;
 use tmem_builtins::stored_steps;
 use tmem_desk::{Desk, DeskFailure, ServedNaming, Service};
-use tmem_disk::SimDisk;
+use tmem_disk::{Disk, SimDisk};
 use tmem_fault::{Fault, Name};
 use tmem_front::{Front, OpenedFront};
 use tmem_invariants::Invariants;
@@ -242,16 +242,32 @@ fn serve_named<N: ServedNaming, T: Invariants + Drop, S: StoredSteps + Drop, R: 
     let names = [Name::new("solvent")?];
     let service = Service::new(rt, alloc, &front, VARS, &names, &[]);
     let mut desk = Desk::new(alloc, front.pass(rt)?);
-    let mut lines = Lines::new(alloc);
-    for piece in case.pieces {
-        if let Err(failure) = desk.serve(&service, &mut lines, piece.as_bytes(), out) {
-            return Ok(end_by(failure));
-        }
-    }
-    match desk.end(&service, &mut lines, out) {
+    match serve_pieces(alloc, &service, &mut desk, case, out) {
         Ok(()) => Ok(ServingEnd::InputRead),
         Err(failure) => Ok(end_by(failure)),
     }
+}
+
+// Serves the pieces of a case, and then the end of the input.
+fn serve_pieces<
+    N: ServedNaming,
+    D: Disk + Drop,
+    T: Invariants + Drop,
+    S: StoredSteps + Drop,
+    R: Wait,
+    W: Write,
+>(
+    alloc: Global,
+    service: &Service<R, D, N, T, S>,
+    desk: &mut Desk<N>,
+    case: &Case,
+    out: &mut W,
+) -> Result<(), DeskFailure> {
+    let mut lines = Lines::new(alloc);
+    for piece in case.pieces {
+        desk.serve(service, &mut lines, piece.as_bytes(), out)?;
+    }
+    desk.end(service, &mut lines, out)
 }
 
 // How serving ended that ended early.

@@ -326,7 +326,51 @@ fn why_attempt<
     Ok(first_alone(front.why_attempt_refused(rt, pass, &attempt, &name)?))
 }
 
-/// Asks why plans are refused, where variable 0 is 1.
+/// Asks by which value a plan is refused, which is to be this.
+fn ask<
+    D: Disk + Drop,
+    N: StoreNaming,
+    T: Invariants + Drop,
+    S: StoredSteps + Drop,
+    R: Abort + Clock + Wait,
+>(
+    rt: &R,
+    front: &Front<D, N, T, S>,
+    pass: &mut Pass<N>,
+    tx: Tx,
+    want: Option<i64>,
+) -> Result<(), Fault> {
+    let had = why(rt, front, pass, tx)?;
+    assert!(rt;
+        had == want,
+        "a plan is refused by {had:?}, not by {want:?}"
+    );
+    Ok(())
+}
+
+/// The same of an attempt at a plan.
+fn ask_of_attempt<
+    D: Disk + Drop,
+    N: StoreNaming,
+    T: Invariants + Drop,
+    S: StoredSteps + Drop,
+    R: Abort + Clock + Wait,
+>(
+    rt: &R,
+    front: &Front<D, N, T, S>,
+    pass: &mut Pass<N>,
+    tx: Tx,
+    want: Option<i64>,
+) -> Result<(), Fault> {
+    let had = why_attempt(rt, front, pass, tx)?;
+    assert!(rt;
+        had == want,
+        "an attempt is refused by {had:?}, not by {want:?}"
+    );
+    Ok(())
+}
+
+/// Asks why plans are refused, where variable 0 is 1: at the point of their check, and at the end. Some are not.
 fn ask_why<
     D: Disk + Drop,
     N: StoreNaming,
@@ -334,16 +378,11 @@ fn ask_why<
     S: StoredSteps + Drop,
     R: Abort + Clock + Wait,
 >(rt: &R, alloc: Global, front: &Front<D, N, T, S>, pass: &mut Pass<N>) -> Result<(), Fault> {
-    let at_its_point = why(rt, front, pass, check_negative(alloc, -7)?)?;
-    assert!(rt; at_its_point == Some(-7));
-    let at_the_end = why(rt, front, pass, write_negative(alloc, -4)?)?;
-    assert!(rt; at_the_end == Some(-4));
-    let of_an_attempt = why_attempt(rt, front, pass, write_negative(alloc, -5)?)?;
-    assert!(rt; of_an_attempt == Some(-5));
-    // it does not
-    assert!(rt; why(rt, front, pass, write(alloc, 0, 1)?)? == None);
-    assert!(rt; why_attempt(rt, front, pass, write(alloc, 0, 1)?)? == None);
-    Ok(())
+    ask(rt, front, pass, check_negative(alloc, -7)?, Some(-7))?;
+    ask(rt, front, pass, write_negative(alloc, -4)?, Some(-4))?;
+    ask(rt, front, pass, write(alloc, 0, 1)?, None)?;
+    ask_of_attempt(rt, front, pass, write_negative(alloc, -5)?, Some(-5))?;
+    ask_of_attempt(rt, front, pass, write(alloc, 0, 1)?, None)
 }
 
 /// Plays the rows.

@@ -4,7 +4,7 @@ ghost use Rattle.std.specs.Prelude.{◌≡◌, length};
 ghost use Rattle.tmem_tests.specs.Examples.{is_last_not_negative};
 
 use super::names::{add, has_all, has_none, numbered, register_all, retire_all};
-use super::{commit, committed, formatted, write};
+use super::{commit_to, committed, formatted, step_to, write};
 use std::alloc::Global;
 use std::process::Abort;
 use std::test::Fail;
@@ -44,10 +44,15 @@ fn fill<T: Invariants + Drop, S: StoredSteps + Drop>(
 ) -> Result<(), Fault> {
     register_all(rt, alloc, world)?;
     let refused = Settled::Refused(numbered(0)?);
-    assert!(rt; commit(world, write(alloc, 15, -1)?) == Reply::Settled(refused));
+    commit_to(rt, world, write(alloc, 15, -1)?, Reply::Settled(refused));
     for number in 8..64u32 {
-        let had = commit(world, write(alloc, 15, i64::from(number))?);
-        assert!(rt; had == committed(u64::from(number), i64::from(number)));
+        let value = i64::from(number);
+        commit_to(
+            rt,
+            world,
+            write(alloc, 15, value)?,
+            committed(u64::from(number), value),
+        );
     }
     Ok(())
 }
@@ -72,12 +77,12 @@ fn checkpoint_and_reopen<T: Invariants + Drop, S: StoredSteps + Drop>(
     alloc: Global,
     world: &mut World<SimDisk, T, S>,
 ) -> Result<(), Fault> {
-    assert!(rt; world.step(Event::Look) == Reply::Looked(64));
+    step_to(rt, world, Event::Look, Reply::Looked(64));
     assert!(rt; has_all(world)?);
-    assert!(rt; world.step(Event::Checkpoint) == Reply::Checkpointed);
-    assert!(rt; world.step(Event::Reopen) == Reply::Opened(64));
+    step_to(rt, world, Event::Checkpoint, Reply::Checkpointed);
+    step_to(rt, world, Event::Reopen, Reply::Opened(64));
     assert!(rt; has_all(world)?);
-    assert!(rt; commit(world, write(alloc, 0, 1)?) == committed(64, 1));
+    commit_to(rt, world, write(alloc, 0, 1)?, committed(64, 1));
     Ok(())
 }
 
@@ -88,9 +93,9 @@ fn retire_and_reopen<T: Invariants + Drop, S: StoredSteps + Drop>(
     world: &mut World<SimDisk, T, S>,
 ) -> Result<(), Fault> {
     retire_all(rt, alloc, world, 64)?;
-    assert!(rt; commit(world, write(alloc, 15, -1)?) == committed(72, -1));
-    assert!(rt; world.step(Event::Flush) == Reply::Durable(73));
-    assert!(rt; world.step(Event::Reopen) == Reply::Opened(73));
+    commit_to(rt, world, write(alloc, 15, -1)?, committed(72, -1));
+    step_to(rt, world, Event::Flush, Reply::Durable(73));
+    step_to(rt, world, Event::Reopen, Reply::Opened(73));
     assert!(rt; has_none(world)?);
     Ok(())
 }

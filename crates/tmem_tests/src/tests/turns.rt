@@ -1,5 +1,5 @@
 //! An evaluation of as many turns as there may be, over invariants with footprints of their own, and the shapes of their table.
-ghost use Rattle.std.specs.Prelude.{◌≡◌, length, IfOk};
+ghost use Rattle.std.specs.Prelude.{◌≡◌, ◌≤◌, length, IfOk};
 ghost use Rattle.tmem_tests.specs.Examples.{is_last_not_negative};
 
 use super::names::{add, numbered};
@@ -10,7 +10,7 @@ use tmem_disk::SimDisk;
 use tmem_fault::Fault;
 use tmem_invariants::Invariants;
 use tmem_tables::Table;
-use tmem_tree::{MAX_TURNS, Steps, StoredSteps, Tx, shapes_of};
+use tmem_tree::{MAX_TURNS, Shape, Steps, StoredSteps, Tx, shapes_of};
 use tmem_world::{Event, Reply, World};
 
 const VARS: u16 = 1024;
@@ -71,16 +71,24 @@ fn has_eight_shapes<T: Invariants>(alloc: Global, table: &T) -> Result<bool, Fau
     let shapes = shapes_of(alloc, table)?;
     let mut n = 0u8;
     for shape in &shapes {
-        let footprint = shape.footprint.as_slice();
-        if n > 7 || footprint.len() != 16 || shape.name != numbered(n)? {
-            return Ok(false);
-        }
-        if footprint[0] != 16 * u16::from(n) || footprint[15] != 16 * u16::from(n) + 15 {
+        if n > 7 || !is_shape_of(shape, n)? {
             return Ok(false);
         }
         n += 1;
     }
     Ok(n == 8)
+}
+
+/// Whether a shape is that of the invariant of a number.
+fn is_shape_of(shape: &Shape, number: u8) -> Result<bool, Fault>
+    requires { number ≤ 7 }
+{
+    let footprint = shape.footprint.as_slice();
+    if footprint.len() != 16 || shape.name != numbered(number)? {
+        return Ok(false);
+    }
+    let first = 16 * u16::from(number);
+    Ok(footprint[0] == first && footprint[15] == first + 15)
 }
 
 /// How many turns that transaction takes over a table, or none where its shapes are not those of the eight invariants.

@@ -1,7 +1,7 @@
 //! A second version of a program goes on with the store of the first one: it has steps that the first one did not have.
 ghost use Rattle.std.specs.Prelude.{◌≡◌};
 
-use super::{commit, committed, opened, write};
+use super::{commit_to, committed, opened, step_to, write};
 use std::alloc::Global;
 use std::process::Abort;
 use std::test::Fail;
@@ -35,14 +35,24 @@ fn begin_on<T: Invariants + Drop, S: StoredSteps + Drop>(
     steps: S,
 ) -> Result<SimDisk, Fault> {
     let mut world = opened(alloc, table, steps)?;
-    assert!(rt; commit(&mut world, write(alloc, 0, 5)?) == committed(0, 5));
+    play_first(rt, alloc, &mut world)?;
+    Ok(world.into_disk())
+}
+
+/// Plays it in this world.
+fn play_first<T: Invariants + Drop, S: StoredSteps + Drop>(
+    rt: &impl Abort,
+    alloc: Global,
+    world: &mut World<SimDisk, T, S>,
+) -> Result<(), Fault> {
+    commit_to(rt, world, write(alloc, 0, 5)?, committed(0, 5));
     let bad = Event::Begin {
         slot: 0,
         tx: by_the_first_step(alloc)?,
     };
-    assert!(rt; world.step(bad) == Reply::Fault(Fault::BadPlan(Cause::BadStep)));
-    assert!(rt; world.step(Event::Flush) == Reply::Durable(1));
-    Ok(world.into_disk())
+    step_to(rt, world, bad, Reply::Fault(Fault::BadPlan(Cause::BadStep)));
+    step_to(rt, world, Event::Flush, Reply::Durable(1));
+    Ok(())
 }
 
 /// Plays the second version on the device that the first one left.
@@ -67,7 +77,7 @@ fn play_later<T: Invariants + Drop, S: StoredSteps + Drop>(
     alloc: Global,
     mut world: World<SimDisk, T, S>,
 ) -> Result<(), Fault> {
-    assert!(rt; commit(&mut world, by_the_first_step(alloc)?) == committed(1, 14));
+    commit_to(rt, &mut world, by_the_first_step(alloc)?, committed(1, 14));
     Ok(())
 }
 
