@@ -6,7 +6,7 @@
 use crate::failure::StoreFailure;
 use crate::found::{
     begins_as_store, has_no_bytes, is_block_device, is_damaged, is_store, is_store_empty,
-    is_whole_store, refusal_at, shape_beside, store_of, text_again,
+    is_whole_store, length_of_cut, refusal_at, shape_beside, store_of, text_again,
 };
 use std::alloc::Global;
 use std::fmt::Display;
@@ -85,6 +85,11 @@ const ON_A_DEVICE: &str =
 
 const SHORT_DEVICE: &str =
     "it is a block device, and too short for the store; look first whether it is the one, and begins at the right byte (lsblk, losetup -l); if a store was on it, make it as long as it was, and try again, before anything is written onto it; if that cannot be, copy its bytes to a file, and put an older copy, of the whole store, on another device that is long enough";
+
+const CUT_BEHIND_ITS_LOG: &str =
+    "check the path; its log ends in front of the place where it is cut off, so no transaction is missing if it lost its end alone (nothing in front of that was left out or filled with zeros, as by dd conv=noerror, ddrescue, fsck or truncate, and it is no copy of a store that was in use); only then do this in place of what is said next: end each program that uses it, copy it to a new file, its shape beside that if it has one (COPY.json), make the copy as long as the store";
+
+const USE_THAT_COPY: &str = "see by tmem show what it has, and use that copy alone from then on";
 
 const UNSEEN: &str = "what is there could not be looked at";
 
@@ -203,43 +208,85 @@ fn explain_store_failure<E: Write>(
     failure: &StoreFailure,
     err: &mut E,
 ) -> io::Result<()> {
-    let notes = Notes::new(rt.alloc(), false);
     match failure {
         StoreFailure::Unread => tell_unread(rt, asked, err),
         StoreFailure::NoShape(_) => tell_no_shape(rt, asked, err),
-        StoreFailure::NotMade(InitError::Refused(fault)) | StoreFailure::Refused(fault) => {
-            tell_fault(rt, asked, &notes, *fault, err)
-        }
+        StoreFailure::NotMade(error) => explain_not_made(rt, asked, error, err),
+        StoreFailure::Refused(fault) => tell_fault_of_store(rt, asked, *fault, err),
         StoreFailure::Ended(fault) => {
-            tell_fault(rt, asked, &notes, *fault, err)?;
+            tell_fault_of_store(rt, asked, *fault, err)?;
             tell_doubt(*fault, err)
         }
-        StoreFailure::NotMade(InitError::StoreIsThere) if is_block_device(rt, asked) => {
-            tell_of(err, asked, A_DEVICE)
-        }
-        StoreFailure::NotMade(InitError::StoreIsThere | InitError::NotBlank)
-            if is_store(rt, asked) => { tell_store(rt, asked, err) }
-        StoreFailure::NotMade(InitError::StoreIsThere | InitError::NotBlank)
-            if is_damaged(rt, asked) => {
-            tell_block(rt, asked, err)?;
-            tell_refused(rt, asked, &notes, Fault::Damaged, err)
-        }
-        StoreFailure::NotMade(InitError::StoreIsThere) => tell_no_store(rt, asked, err),
-        StoreFailure::NotMade(InitError::NotBlank) => {
-            tell_block(rt, asked, err)?;
-            tell_of(err, asked, NOT_BLANK)
-        }
-        StoreFailure::NotMade(InitError::TextUnread(_)) => tell_of(err, asked, TEXT_UNREAD),
-        StoreFailure::NotMade(InitError::TextIsThere) => {
-            tell_of(err, asked, format_args!("{OTHER_TEXT}; {BEFORE_A_COPY}"))
-        }
-        StoreFailure::Unregistered(_) => {
-            tell_block(rt, asked, err)?;
-            tell_of(err, asked, NOT_REGISTERED)
-        }
+        StoreFailure::Unregistered(_) => tell_of_bytes(rt, asked, NOT_REGISTERED, err),
         StoreFailure::Input => tell(err, NO_INPUT),
         StoreFailure::Output => tell(err, NO_ANSWERS),
     }
+}
+
+fn explain_not_made<E: Write>(
+    rt: &(impl Files<File = File> + AllocGlobal),
+    asked: Asked,
+    error: &InitError,
+    err: &mut E,
+) -> io::Result<()> {
+    match error {
+        InitError::Refused(fault) => tell_fault_of_store(rt, asked, *fault, err),
+        InitError::StoreIsThere if is_block_device(rt, asked) => tell_of(err, asked, A_DEVICE),
+        InitError::StoreIsThere => tell_there(rt, asked, false, err),
+        InitError::NotBlank => tell_there(rt, asked, true, err),
+        InitError::TextUnread(_) => tell_of(err, asked, TEXT_UNREAD),
+        InitError::TextIsThere => {
+            tell_of(err, asked, format_args!("{OTHER_TEXT}; {BEFORE_A_COPY}"))
+        }
+    }
+}
+
+// Tells what is there where a store was to be made, in place or not.
+fn tell_there<E: Write>(
+    rt: &(impl Files<File = File> + AllocGlobal),
+    asked: Asked,
+    is_in_place: bool,
+    err: &mut E,
+) -> io::Result<()> {
+    if is_store(rt, asked) {
+        return tell_store(rt, asked, err);
+    }
+    if is_damaged(rt, asked) {
+        tell_block(rt, asked, err)?;
+        return tell_refused(
+            rt,
+            asked,
+            &Notes::new(rt.alloc(), false),
+            Fault::Damaged,
+            err,
+        );
+    }
+    if is_in_place {
+        tell_of_bytes(rt, asked, NOT_BLANK, err)
+    } else {
+        tell_no_store(rt, asked, err)
+    }
+}
+
+// Tells something of the bytes that are there, behind what is to be told of those of a block device.
+fn tell_of_bytes<E: Write>(
+    rt: &(impl Files<File = File> + AllocGlobal),
+    asked: Asked,
+    text: &str,
+    err: &mut E,
+) -> io::Result<()> {
+    tell_block(rt, asked, err)?;
+    tell_of(err, asked, text)
+}
+
+// The same as `tell_fault`, where no script was played.
+fn tell_fault_of_store<E: Write>(
+    rt: &(impl Files<File = File> + AllocGlobal),
+    asked: Asked,
+    fault: Fault,
+    err: &mut E,
+) -> io::Result<()> {
+    tell_fault(rt, asked, &Notes::new(rt.alloc(), false), fault, err)
 }
 
 // Tells what a fault means. Where the bytes of a block device are refused as those of a store, it tells before that how a copy is put
@@ -295,12 +342,19 @@ fn tell_failing_block<E: Write>(
     }
 }
 
-// Of what has too few bytes, tells what to do before all else where it is a block device.
-fn tell_short_block<E: Write>(
+// Of what has too few bytes, tells what to do before all else where it is a store without the bytes behind its log, or a block device.
+fn tell_short<E: Write>(
     rt: &(impl Files<File = File> + AllocGlobal),
     asked: Asked,
     err: &mut E,
 ) -> io::Result<()> {
+    if let Some(length) = length_of_cut(rt, asked) {
+        tell_of(
+            err,
+            asked,
+            format_args!("{CUT_BEHIND_ITS_LOG} (truncate -s {length} COPY), {USE_THAT_COPY}"),
+        )?;
+    }
     if is_block_device(rt, asked) {
         tell_of(err, asked, SHORT_DEVICE)
     } else {
@@ -327,7 +381,7 @@ fn tell_store<E: Write>(
     if is_whole_store(rt, asked) {
         return tell_of(err, asked, A_STORE);
     }
-    tell_short_block(rt, asked, err)?;
+    tell_short(rt, asked, err)?;
     tell_of(err, asked, CUT_STORE)
 }
 
@@ -396,14 +450,21 @@ fn tell_of_shape<E: Write>(
     if begins_as_store(rt, path) {
         return tell(err, format_args!("{path}: {of_store}"));
     }
-    match text_again(rt, path) {
-        Some(text) if text.is_empty() => {
-            tell(err, format_args!("{path}: {EMPTY_FILE}; {NO_SHAPE}"))
-        }
-        Some(text) if is_cut_off(rt.alloc(), &text) => {
-            tell(err, format_args!("{path}: {CUT_OFF}; {NO_SHAPE}"))
-        }
-        _ => tell(err, format_args!("{path}: {NO_SHAPE}")),
+    match flaw_of_text(rt, path) {
+        Some(flaw) => tell(err, format_args!("{path}: {flaw}; {NO_SHAPE}")),
+        None => tell(err, format_args!("{path}: {NO_SHAPE}")),
+    }
+}
+
+// What is wrong with a whole text, where something is.
+fn flaw_of_text(rt: &(impl Files<File = File> + AllocGlobal), path: &str) -> Option<&'static str> {
+    let text = text_again(rt, path)?;
+    if text.is_empty() {
+        Some(EMPTY_FILE)
+    } else if is_cut_off(rt.alloc(), &text) {
+        Some(CUT_OFF)
+    } else {
+        None
     }
 }
 
@@ -560,7 +621,7 @@ fn tell_layout<E: Write>(
         Some(help) => {
             match help {
                 NumbersHelp::Other { .. } => tell_block(rt, asked, err)?,
-                _ => tell_short_block(rt, asked, err)?,
+                _ => tell_short(rt, asked, err)?,
             }
             tell_of(err, asked, help)
         }
@@ -575,13 +636,13 @@ fn tell_cut_off<E: Write>(
     err: &mut E,
 ) -> io::Result<()> {
     if let Asked::Init(_) = asked {
-        tell_short_block(rt, asked, err)?;
+        tell_short(rt, asked, err)?;
         return tell_of(err, asked, TOO_SHORT);
     }
     if let Some((path, _)) = store_of(asked) {
         if let Some(refusal) = refusal_at(rt, path) {
             match refusal.fault {
-                Fault::Geometry => tell_short_block(rt, asked, err)?,
+                Fault::Geometry => tell_short(rt, asked, err)?,
                 _ => tell_block(rt, asked, err)?,
             }
             return tell_bytes(err, asked, path, refusal);

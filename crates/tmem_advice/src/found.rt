@@ -7,7 +7,7 @@ use tmem_args::{Asked, JOBS_STORE};
 use tmem_explain::Wanted;
 use tmem_fault::Fault;
 use tmem_parts::block_of;
-use tmem_show::{Refusal, Source, refusal_of};
+use tmem_show::{Refusal, Source, length_without_loss, refusal_of};
 
 /// The text in a file, which was read before. None where that was no file: a pipe would be empty now, or waited for.
 pub(crate) fn text_again(
@@ -36,6 +36,18 @@ pub(crate) fn refusal_at(
 ) -> Option<Refusal> {
     match Source::read(rt, path) {
         Ok(source) => refusal_of(rt.alloc(), &source).ok()?,
+        Err(_) => None,
+    }
+}
+
+/// How long what has the path of the store is to be made, where it is one that ends too soon, behind its log.
+pub(crate) fn length_of_cut(
+    rt: &(impl Files<File = File> + AllocGlobal),
+    asked: Asked,
+) -> Option<u64> {
+    let (path, _) = store_of(asked)?;
+    match Source::read(rt, path) {
+        Ok(source) => length_without_loss(rt.alloc(), &source).ok()?,
         Err(_) => None,
     }
 }

@@ -21,7 +21,7 @@ impl fmt::Display for FaultHelp {
             ),
             Fault::Device => write!(
                 f,
-                "a call on the file failed, or a sync of it failed before, and this process makes none any more; look at its rights, at room (df), at limits (ulimit -f, ulimit -n), whether the device is read-only, and into the system's log (dmesg); then open the store again, and see what it has before anything is repeated"
+                "a call on the file failed, or a sync of it failed before, and this process makes none any more; look at its rights, at room (df), at limits (ulimit -f, ulimit -n), whether the device is read-only, and into the system's log (dmesg); then open the store again, and see what it has before anything is repeated; if the store fails again, end each program that uses it, copy it to another disk, and use that copy alone from then on"
             ),
             Fault::Closed => write!(
                 f,

@@ -63,11 +63,11 @@ lost_of c =
 -- what is told of that: where all of them are lost, and where the first ones may be durable
 abbrev pub gone_text : Lost → List ℕ
 gone_text lost =
-    codes "not durable, and so gone: " ++ (decimal lost.count ++ (codes " of the committed transactions, from number " ++ (decimal lost.first ++ codes " on: each that is not among the first N of the next `opened N`, or, if none follows, of the last `durable N` or `opened N` (a flush takes 64 at most)")))
+    codes "not durable, and so gone: " ++ (decimal lost.count ++ (codes " of the committed transactions, from number " ++ (decimal lost.first ++ codes " on: each that is not among the first N of the next `opened N`, or, if none follows, of the last `durable N` or `opened N` (a flush takes 64 at most); to have them, see by tmem show how many the store has, and play those behind that alone, and then a flush")))
 
 abbrev pub doubt_text : Lost → List ℕ
 doubt_text lost =
-    codes "not known durable: " ++ (decimal lost.count ++ (codes " of the committed transactions, from number " ++ (decimal lost.first ++ codes " on; those of the flush that met fault 4 are all there or none, and the others are gone; open the store again, after an error of the disk once the machine was started anew, and it says how many there are")))
+    codes "not known durable: " ++ (decimal lost.count ++ (codes " of the committed transactions, from number " ++ (decimal lost.first ++ codes " on; those of a flush that met fault 4 (64 at most) are all there or none, and the others are gone; open the store again, after an error of the disk once the machine was started anew, and it says how many there are (behind a reopen of the script the numbers from its `opened N` on are given again: tell those apart by what they write)")))
 
 abbrev pub lost_text : Lost → List ℕ
 lost_text lost = if lost.in_doubt then doubt_text lost else gone_text lost

@@ -164,12 +164,12 @@ impl fmt::Display for Lost {
         if in_doubt {
             write!(
                 f,
-                "not known durable: {count} of the committed transactions, from number {first} on; those of the flush that met fault 4 are all there or none, and the others are gone; open the store again, after an error of the disk once the machine was started anew, and it says how many there are"
+                "not known durable: {count} of the committed transactions, from number {first} on; those of a flush that met fault 4 (64 at most) are all there or none, and the others are gone; open the store again, after an error of the disk once the machine was started anew, and it says how many there are (behind a reopen of the script the numbers from its `opened N` on are given again: tell those apart by what they write)"
             )
         } else {
             write!(
                 f,
-                "not durable, and so gone: {count} of the committed transactions, from number {first} on: each that is not among the first N of the next `opened N`, or, if none follows, of the last `durable N` or `opened N` (a flush takes 64 at most)"
+                "not durable, and so gone: {count} of the committed transactions, from number {first} on: each that is not among the first N of the next `opened N`, or, if none follows, of the last `durable N` or `opened N` (a flush takes 64 at most); to have them, see by tmem show how many the store has, and play those behind that alone, and then a flush"
             )
         }
     }

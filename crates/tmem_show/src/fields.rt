@@ -49,31 +49,48 @@ pub(crate) enum Is {
 
 impl fmt::Display for Is {
     fn fmt<W: fmt::Write>(&self, f: &mut fmt::Formatter<W>) -> fmt::Result {
-        match self {
-            Is::Open => write!(f, "the gate, open"),
-            Is::Closed => write!(f, "the gate, closed"),
-            Is::Letters => write!(f, "TMEM"),
-            Is::Version(number) => write!(f, "version {number}"),
-            Is::Vars(number) => write!(f, "{number} variables"),
-            Is::Slots(number) => write!(f, "{number} log slots"),
-            Is::Zeros => write!(f, "zeros"),
-            Is::Generation(number) => write!(f, "generation {number}"),
-            Is::Count(number) => write!(f, "count {number}"),
-            Is::Names(number) => write!(f, "{number} names"),
-            Is::Name(name) => write!(f, "{name}"),
-            Is::Mark(mark) => write!(f, "mark {mark}"),
-            Is::Value(var, value) => write!(f, "variable {var} is {value}"),
-            Is::ZeroValues(first, last) if first == last => write!(f, "variable {first} is 0"),
+        match *self {
+            Is::Open => f.write_str("the gate, open"),
+            Is::Closed => f.write_str("the gate, closed"),
+            Is::Letters => f.write_str("TMEM"),
+            Is::Version(number) => put_named(f, "version", number.into()),
+            Is::Vars(number) => put_counted(f, number.into(), "variables"),
+            Is::Slots(number) => put_counted(f, number.into(), "log slots"),
+            Is::Zeros => f.write_str("zeros"),
+            Is::Generation(number) => put_named(f, "generation", number),
+            Is::Count(number) => put_named(f, "count", number),
+            Is::Names(number) => put_counted(f, number.into(), "names"),
+            Is::Name(name) => name.fmt(f),
+            Is::Mark(mark) => put_named(f, "mark", mark.into()),
+            Is::Value(var, value) => put_value(f, var, "is", value),
+            Is::ZeroValues(first, last) if first == last => put_value(f, first, "is", 0),
             Is::ZeroValues(first, last) => write!(f, "variables {first} to {last} are 0"),
-            Is::First(number) => write!(f, "first record {number}"),
-            Is::Records(number) => write!(f, "{number} records"),
-            Is::Writes(number) => write!(f, "{number} writes"),
-            Is::Write(var, value) => write!(f, "variable {var} becomes {value}"),
-            Is::Checks(number) => write!(f, "{number} names are checked"),
-            Is::Retires(number) => write!(f, "{number} names are retired"),
-            Is::Ignored => write!(f, "not looked at"),
+            Is::First(number) => put_named(f, "first record", number),
+            Is::Records(number) => put_counted(f, number.into(), "records"),
+            Is::Writes(number) => put_counted(f, number.into(), "writes"),
+            Is::Write(var, value) => put_value(f, var, "becomes", value),
+            Is::Checks(number) => put_counted(f, number.into(), "names are checked"),
+            Is::Retires(number) => put_counted(f, number.into(), "names are retired"),
+            Is::Ignored => f.write_str("not looked at"),
         }
     }
+}
+
+fn put_named<W: fmt::Write>(f: &mut fmt::Formatter<W>, what: &str, number: u64) -> fmt::Result {
+    write!(f, "{what} {number}")
+}
+
+fn put_counted<W: fmt::Write>(f: &mut fmt::Formatter<W>, number: u64, what: &str) -> fmt::Result {
+    write!(f, "{number} {what}")
+}
+
+fn put_value<W: fmt::Write>(
+    f: &mut fmt::Formatter<W>,
+    var: u16,
+    verb: &str,
+    value: i64,
+) -> fmt::Result {
+    write!(f, "variable {var} {verb} {value}")
 }
 
 // Walks over a gate, and behind a closed one to the end. Answers whether it is open.
