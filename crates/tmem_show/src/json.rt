@@ -5,7 +5,7 @@ use crate::error::ShowError;
 use crate::fields::Field;
 use crate::look::{OpeningResult, PartRole, ShownStore, Walked, opening_without_block, too_short};
 use crate::source::Source;
-use crate::text::join;
+use crate::text::{join, put};
 use std::alloc::Global;
 use std::io::{self, Write};
 use tmem_effect::Effect;
@@ -27,14 +27,14 @@ pub fn show_json<W: Write>(
     match block_of(&source.bytes) {
         Ok(block) => put_store(alloc, source, block, hex, out)?,
         Err(wrong) => {
-            write!(out, "{{\"at\":0,")?;
+            put(out, "{\"at\":0,")?;
             put_wrong(out, wrong)?;
             let opening = opening_without_block(alloc, source, wrong)?;
-            write!(out, "}}")?;
+            put(out, "}")?;
             put_opening(out, &opening)?;
         }
     }
-    Ok(writeln!(out, "}}")?)
+    Ok(put(out, "}\n")?)
 }
 
 // The parts of a store with this block 0.
@@ -48,7 +48,7 @@ fn put_store<W: Write>(
     let Block { version, layout } = block;
     put_block(out, version, layout)?;
     if (source.bytes.len() as u64) < layout.end() {
-        write!(out, "}}")?;
+        put(out, "}")?;
         return Ok(put_opening(out, &too_short(source))?);
     }
     match &ShownStore::new(alloc, &source.bytes, layout) {
@@ -86,11 +86,11 @@ fn put_block<W: Write>(out: &mut W, version: Version, layout: Layout) -> io::Res
 
 // The end of block 0, and the image copies.
 fn put_images<W: Write>(look: &ShownStore, hex: bool, out: &mut W) -> Result<(), ShowError> {
-    write!(out, "}},\"images\":[")?;
+    put(out, "},\"images\":[")?;
     for copy in 0..2 {
         put_image(look, copy, hex, out)?;
     }
-    Ok(write!(out, "]")?)
+    Ok(put(out, "]")?)
 }
 
 // The log slots.
@@ -100,17 +100,17 @@ fn put_slots<W: Write>(
     hex: bool,
     out: &mut W,
 ) -> Result<(), ShowError> {
-    write!(out, ",\"slots\":[")?;
+    put(out, ",\"slots\":[")?;
     let mut records = Records::new(alloc)?;
     for k in 0..look.layout.slots {
         put_slot(look, k, &mut records, hex, out)?;
     }
-    Ok(write!(out, "]")?)
+    Ok(put(out, "]")?)
 }
 
 // What an opening finds, or its refusal, and where that comes from.
 fn put_opening<W: Write>(out: &mut W, opening: &OpeningResult) -> io::Result<()> {
-    write!(out, ",\"recovery\":")?;
+    put(out, ",\"recovery\":")?;
     match opening {
         OpeningResult::Found(state) => put_state(out, state),
         OpeningResult::Refused(fault, wrong) => put_refusal(out, *fault, *wrong),
@@ -123,21 +123,29 @@ fn put_image<W: Write>(look: &ShownStore, copy: u8, hex: bool, out: &mut W) -> R
 {
     let walked = look.walk_image(copy)?;
     begin(out, copy > 0, walked.at)?;
-    match look.image(copy)? {
-        Image::Closed => write!(out, "false")?,
-        Image::Damaged => {
-            put_role(out, look.role_of_image(copy))?;
-            put_damage(out, &walked)?;
-        }
-        Image::Open(image) => {
-            put_role(out, look.role_of_image(copy))?;
-            put_head(out, &image)?;
-        }
-    }
-    if hex {
-        put_fields(look, &walked, out)?;
-    }
-    Ok(write!(out, "}}")?)
+    put_copy(look, copy, &walked, out)?;
+    Ok(end(look, &walked, hex, out)?)
+}
+
+// Whether it is open, and what it holds.
+fn put_copy<W: Write>(
+    look: &ShownStore,
+    copy: u8,
+    walked: &Walked,
+    out: &mut W,
+) -> Result<(), ShowError>
+    requires { copy ≤ 1 }
+{
+    let image = match look.image(copy)? {
+        Image::Closed => return Ok(put(out, "false")?),
+        image => image,
+    };
+    put_role(out, look.role_of_image(copy))?;
+    let shown = match image {
+        Image::Open(image) => put_head(out, &image),
+        _ => put_damage(out, walked),
+    };
+    Ok(shown?)
 }
 
 fn put_head<W: Write>(out: &mut W, image: &ImageState) -> io::Result<()> {
@@ -148,7 +156,7 @@ fn put_head<W: Write>(out: &mut W, image: &ImageState) -> io::Result<()> {
         ",\"version\":{version},\"generation\":{generation},\"count\":{count},\"names\":["
     )?;
     join_quoted(out, image.state.names())?;
-    write!(out, "]")
+    put(out, "]")
 }
 
 // A log slot, behind a comma unless it is the first.
@@ -164,13 +172,10 @@ fn put_slot<W: Write>(
     let walked = look.walk_slot(k)?;
     begin(out, k > 0, walked.at)?;
     match look.slot(k, records) {
-        Slot::Closed => write!(out, "false")?,
+        Slot::Closed => put(out, "false")?,
         slot => put_open_slot(look.role_of_slot(k), slot, records, &walked, out)?,
     }
-    if hex {
-        put_fields(look, &walked, out)?;
-    }
-    Ok(write!(out, "}}")?)
+    Ok(end(look, &walked, hex, out)?)
 }
 
 // What counts of a slot that is open, and its batch.
@@ -187,6 +192,14 @@ fn put_open_slot<W: Write>(
         (_, Slot::Open(head)) => put_batch(out, head, records),
         (_, Slot::Damaged) => put_damage(out, walked),
     }
+}
+
+// The end of a part, with its bytes where they are asked for.
+fn end<W: Write>(look: &ShownStore, walked: &Walked, hex: bool, out: &mut W) -> io::Result<()> {
+    if hex {
+        put_fields(look, walked, out)?;
+    }
+    put(out, "}")
 }
 
 // The start of a part, up to whether it is open.
@@ -215,7 +228,7 @@ fn put_batch<W: Write>(out: &mut W, head: Head, records: &Records) -> io::Result
     for (i, effect) in records.effects().iter().enumerate() {
         put_record(out, i > 0, effect)?;
     }
-    write!(out, "]")
+    put(out, "]")
 }
 
 // A record, behind a comma unless it is the first.
@@ -226,21 +239,21 @@ fn put_record<W: Write>(out: &mut W, is_later: bool, effect: &Effect) -> io::Res
         let comma = if i > 0 { "," } else { "" };
         write!(out, "{comma}[{var},{value}]")?;
     }
-    write!(out, "],\"checks\":[")?;
+    put(out, "],\"checks\":[")?;
     join_quoted(out, effect.names.as_slice())?;
-    write!(out, "],\"retires\":[")?;
+    put(out, "],\"retires\":[")?;
     join_quoted(out, effect.retired.as_slice())?;
-    write!(out, "]}}")
+    put(out, "]}")
 }
 
 // Where a part that is open goes wrong.
 fn put_damage<W: Write>(out: &mut W, walked: &Walked) -> io::Result<()> {
     match walked.wrong {
         Some(wrong) => {
-            write!(out, ",")?;
+            put(out, ",")?;
             put_wrong(out, wrong)
         }
-        None => write!(out, ",\"wrong\":null"),
+        None => put(out, ",\"wrong\":null"),
     }
 }
 
@@ -256,9 +269,9 @@ fn put_wrong<W: Write>(out: &mut W, wrong: WrongByte) -> io::Result<()> {
 fn put_state<W: Write>(out: &mut W, state: &State) -> io::Result<()> {
     write!(out, "{{\"count\":{},\"names\":[", state.count())?;
     join_quoted(out, state.names())?;
-    write!(out, "],\"values\":[")?;
+    put(out, "],\"values\":[")?;
     join(out, state.values())?;
-    write!(out, "]}}")
+    put(out, "]}")
 }
 
 // The refusal of an opening, and where it comes from.
@@ -266,7 +279,7 @@ fn put_refusal<W: Write>(out: &mut W, fault: Fault, wrong: WrongByte) -> io::Res
     let (number, word) = number_and_word(fault);
     write!(out, "{{\"fault\":{number},\"word\":\"{word}\",")?;
     put_wrong(out, wrong)?;
-    write!(out, "}}")
+    put(out, "}")
 }
 
 // The number of a refusal of these bytes, and its word.
@@ -282,14 +295,14 @@ fn number_and_word(fault: Fault) -> (u8, &'static str) {
 
 // The bytes of a part, field by field: the place, the bytes, and what they are.
 fn put_fields<W: Write>(look: &ShownStore, walked: &Walked, out: &mut W) -> io::Result<()> {
-    write!(out, ",\"fields\":[")?;
+    put(out, ",\"fields\":[")?;
     for (i, field) in walked.fields.iter().enumerate() {
         let comma = if i > 0 { "," } else { "" };
         write!(out, "{comma}[{},\"", field.at)?;
         put_hex(look, field, out)?;
         write!(out, "\",\"{}\"]", field.is)?;
     }
-    write!(out, "]")
+    put(out, "]")
 }
 
 fn put_hex<W: Write>(look: &ShownStore, field: &Field, out: &mut W) -> io::Result<()> {

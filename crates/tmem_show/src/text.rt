@@ -108,20 +108,30 @@ fn show_image<W: Write>(
 {
     let walked = look.walk_image(copy)?;
     write!(out, "image {copy} at {}: ", walked.at)?;
+    show_copy(look, copy, &walked, out)?;
+    Ok(show_hex(look, &walked, hex, out)?)
+}
+
+// What it holds.
+fn show_copy<W: Write>(
+    look: &ShownStore,
+    copy: u8,
+    walked: &Walked,
+    out: &mut W,
+) -> Result<(), ShowError>
+    requires { copy ≤ 1 }
+{
     let role = match look.role_of_image(copy) {
         PartRole::Counts => "chosen",
         PartRole::Stale => "stale",
         PartRole::Amiss => "not chosen",
     };
-    match look.image(copy)? {
-        Image::Closed => writeln!(out, "closed")?,
-        Image::Damaged => show_wrong(out, role, &walked)?,
-        Image::Open(image) => show_open_image(out, role, &image)?,
-    }
-    if hex {
-        show_fields(look, &walked, out)?;
-    }
-    Ok(())
+    let shown = match look.image(copy)? {
+        Image::Closed => put(out, "closed\n"),
+        Image::Damaged => show_wrong(out, role, walked),
+        Image::Open(image) => show_open_image(out, role, &image),
+    };
+    Ok(shown?)
 }
 
 fn show_open_image<W: Write>(out: &mut W, role: &str, image: &ImageState) -> io::Result<()> {
@@ -132,7 +142,7 @@ fn show_open_image<W: Write>(out: &mut W, role: &str, image: &ImageState) -> io:
         "open, {role}, version {version}, generation {generation}, count {count}, names="
     )?;
     join(out, image.state.names())?;
-    writeln!(out, "")
+    put(out, "\n")
 }
 
 // The log slots.
@@ -161,19 +171,29 @@ fn show_slot<W: Write>(
 {
     let walked = look.walk_slot(k)?;
     write!(out, "slot {k} at {}: ", walked.at)?;
+    show_content(look, k, records, &walked, out)?;
+    Ok(show_hex(look, &walked, hex, out)?)
+}
+
+// What it holds.
+fn show_content<W: Write>(
+    look: &ShownStore,
+    k: u16,
+    records: &mut Records,
+    walked: &Walked,
+    out: &mut W,
+) -> io::Result<()>
+    requires { k < look.now.layout.slots }
+{
     let slot = look.slot(k, records);
     match (look.role_of_slot(k), slot) {
-        (_, Slot::Closed) => writeln!(out, "closed")?,
-        (PartRole::Stale, _) => writeln!(out, "open, stale")?,
-        (PartRole::Counts, Slot::Open(head)) => show_batch(out, "in the log", head, records)?,
-        (PartRole::Amiss, Slot::Open(head)) => show_batch(out, "not in the log", head, records)?,
-        (PartRole::Counts, Slot::Damaged) => show_wrong(out, "in the log", &walked)?,
-        (PartRole::Amiss, Slot::Damaged) => show_wrong(out, "not in the log", &walked)?,
+        (_, Slot::Closed) => put(out, "closed\n"),
+        (PartRole::Stale, _) => put(out, "open, stale\n"),
+        (PartRole::Counts, Slot::Open(head)) => show_batch(out, "in the log", head, records),
+        (PartRole::Amiss, Slot::Open(head)) => show_batch(out, "not in the log", head, records),
+        (PartRole::Counts, Slot::Damaged) => show_wrong(out, "in the log", walked),
+        (PartRole::Amiss, Slot::Damaged) => show_wrong(out, "not in the log", walked),
     }
-    if hex {
-        show_fields(look, &walked, out)?;
-    }
-    Ok(())
 }
 
 // The batch of a slot.
@@ -201,7 +221,7 @@ fn show_record<W: Write>(out: &mut W, number: u64, effect: &Effect) -> io::Resul
     for name in effect.retired.as_slice() {
         write!(out, " retires {name}")?;
     }
-    writeln!(out, "")
+    put(out, "\n")
 }
 
 // Where a part that is open goes wrong.
@@ -217,9 +237,23 @@ fn show_state<W: Write>(out: &mut W, state: &State) -> io::Result<()> {
     writeln!(out, "recovery: opened {}", state.count())?;
     write!(out, "state count={} names=", state.count())?;
     join(out, state.names())?;
-    write!(out, " values=")?;
+    put(out, " values=")?;
     join(out, state.values())?;
-    writeln!(out, "")
+    put(out, "\n")
+}
+
+// The bytes of a part, where they are asked for.
+fn show_hex<W: Write>(
+    look: &ShownStore,
+    walked: &Walked,
+    hex: bool,
+    out: &mut W,
+) -> io::Result<()> {
+    if hex {
+        show_fields(look, walked, out)
+    } else {
+        Ok(())
+    }
 }
 
 // The bytes of a part, field by field.
@@ -234,22 +268,32 @@ fn show_fields<W: Write>(look: &ShownStore, walked: &Walked, out: &mut W) -> io:
 }
 
 fn show_field<W: Write>(look: &ShownStore, field: &Field, out: &mut W) -> io::Result<()> {
-    let bytes = look.bytes_of(field);
     write!(out, "  {}:", field.at)?;
+    show_bytes(look.bytes_of(field), out)?;
+    writeln!(out, "  {}", field.is)
+}
+
+// The first bytes of a field, and how many there are where those are not all.
+fn show_bytes<W: Write>(bytes: &[u8], out: &mut W) -> io::Result<()> {
     for byte in bytes.iter().take(MOST_SHOWN) {
         write!(out, " {byte:02x}")?;
     }
     if bytes.len() > MOST_SHOWN {
         write!(out, " .. {} bytes", bytes.len())?;
     }
-    writeln!(out, "  {}", field.is)
+    Ok(())
+}
+
+/// A text as it stands.
+pub(crate) fn put<W: Write>(out: &mut W, text: &str) -> io::Result<()> {
+    out.write_all(text.as_bytes())
 }
 
 // Texts, with a comma between any two.
 pub(crate) fn join<W: Write, T: Display>(out: &mut W, items: &[T]) -> io::Result<()> {
     for (i, item) in items.iter().enumerate() {
         if i > 0 {
-            write!(out, ",")?;
+            put(out, ",")?;
         }
         write!(out, "{item}")?;
     }
