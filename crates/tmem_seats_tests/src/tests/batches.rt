@@ -20,7 +20,7 @@ struct Record<'a> {
 
 /// A number, a negative one, a name, two writes of one variable, which are one in the record, a name that is retired, and what has
 /// several of these.
-const RECORDS: &[Record<'static>] = &[
+static RECORDS: &[Record<'static>] = &[
     Record {
         puts: &[(0, 5)],
         checks: &[],
@@ -303,7 +303,7 @@ fn a_batch_of_64_records_is_encoded_and_decoded(rt: HostRuntime) -> Result<(), F
 
 /// How many records a batch says that it has, their bytes, and whether that is read over four variables as a batch of the first version
 /// and of the second. What is not read differs from what is in what is wrong with it.
-const CONTENTS: &[(u8, &[u8], bool, bool)] = &[
+static CONTENTS: &[(u8, &'static [u8], bool, bool)] = &[
     (1, &[1, 0, 0, 5, 0, 0, 0, 0, 0, 0, 0, 0, 0], true, true),
     // without its last byte, and without another one
     (1, &[1, 0, 0, 5, 0, 0, 0, 0, 0, 0, 0, 0], true, false),
@@ -485,7 +485,7 @@ fn taken(alloc: Global, records: &[(u16, u8)]) -> Result<(usize, usize), Fault> 
 }
 
 /// Records by their writes and names, how many of them a batch takes, and how many bytes these have.
-const LARGE: &[(&[(u16, u8)], usize, usize)] = &[
+static LARGE: &[(&'static [(u16, u8)], usize, usize)] = &[
     // the longest one
     (&[(64, 8), (64, 8), (64, 8), (64, 8), (64, 8)], 4, 3660),
     (

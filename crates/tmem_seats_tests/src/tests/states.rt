@@ -71,7 +71,11 @@ fn after(
 }
 
 /// The numbers of the names that are checked and of those that are retired, and what a full state is after them.
-const EFFECTS: &[(&[u8], &[u8], Option<(u64, usize, [bool; 4])>)] = &[
+static EFFECTS: &[(
+    &'static [u8],
+    &'static [u8],
+    Option<(u64, usize, [bool; 4])>,
+)] = &[
     (&[], &[], Some((6, 64, [true, true, true, false]))),
     // one that is registered, and one that is not
     (&[63], &[], Some((6, 64, [true, true, true, false]))),
