@@ -108,6 +108,11 @@ class Terminal(StoreCase):
         os.write(self.ours, line + b"\n")
         return self.read_to(b"tmem> ")
 
+    def time_used(self):
+        """The processor time of the shell."""
+        with open(f"/proc/{self.shell.pid}/stat", encoding="utf-8") as it:
+            return it.read().rpartition(")")[2].split()[11:13]
+
     def test_it_asks_and_goes_on(self):
         self.assertEqual(self.read_to(b"tmem> "), b"tmem> ")
         self.assertEqual(self.typed(b"set a 5"), b"set a 5\r\na = 5\r\ntmem> ")
@@ -116,6 +121,8 @@ class Terminal(StoreCase):
         # An interrupt ends the line that was begun, and no more.
         os.write(self.ours, b"set a 9")
         self.read_to(b"set a 9")
+        # (Python's readline sees a signal that comes just before it waits only once a key is pressed)
+        self.until(lambda: stands(self.time_used))
         self.shell.send_signal(signal.SIGINT)
         self.read_to(b"\r\ntmem> ")
         self.assertEqual(self.typed(b"get a"), b"get a\r\na = 5\r\ntmem> ")
