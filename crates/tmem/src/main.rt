@@ -3,8 +3,6 @@
 #![tactic(auto)]
 
 mod command_line;
-#[cfg(test)]
-mod tests;
 
 use command_line::words_of;
 use std::io::LineWriter;

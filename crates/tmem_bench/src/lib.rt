@@ -3,7 +3,7 @@
 //! `jobs` says what callers do. `on_core` does it on the core alone. `service` lets threads do it beside a flusher, on a store that
 //! `store` opens. `device` makes the devices, `opening` opens a store again and again, and `run` runs every job and prints a
 //! line for each. The baseline of a job is what the same device does by two syncs alone. A `Line` is public for its test, in
-//! crate `tmem`.
+//! crate `tmem_desk_tests`.
 #![tactic(auto)]
 
 mod device;

@@ -7,13 +7,12 @@ ghost use Rattle.tmem_script.specs.declared.failure.ProgramFailure.TheVariants.{
 ghost use Rattle.tmem_explain.specs.Limits.{IsFineText};
 ghost use Rattle.tmem_cli.specs.Checked.{HasFlaws, IsWhyNotChecked, IsScriptThere, TellsFlaws, lines_of};
 
-use crate::words::flush;
 use std::alloc::Global;
 use std::fs::{self, File, Files};
 use std::io::Write;
 use tmem_explain::{Flaw, flaws_in};
 use tmem_fault::Fault;
-use tmem_run::print_line;
+use tmem_run::{flush_output, print_line};
 use tmem_script::{ProgramFailure, ScriptError};
 
 /// Prints a line for each flaw of the script in a file. Whether it is a script of which a run refuses no number and no transaction: then
@@ -46,7 +45,7 @@ pub fn check_text<W: Write>(alloc: Global, text: &[u8], out: &mut W) -> Result<b
         return Ok(true);
     }
     print_flaws(out, &flaws)?;
-    flush(out)?;
+    flush_output(out)?;
     Ok(false)
 }
 

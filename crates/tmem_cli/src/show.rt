@@ -3,11 +3,11 @@ ghost use Rattle.std.specs.Prelude.{None, IfErr, OnOk};
 ghost use Rattle.tmem_show.specs.Refusals.{TellsOf};
 ghost use Rattle.tmem_cli.specs.Outcomes.{IsWhyNotShown, OpensShown};
 
-use crate::words::flush;
 use std::alloc::Global;
 use std::fs::{File, Files};
 use std::io::Write;
 use tmem_args::Showing;
+use tmem_run::flush_output;
 use tmem_script::ProgramFailure;
 use tmem_show::{ShowError, Source, refusal_of};
 
@@ -36,7 +36,7 @@ pub fn show_source<W: Write>(
     ensures failed { IfErr result IsWhyNotShown }
 {
     print_source(alloc, source, showing, out)?;
-    flush(out)?;
+    flush_output(out)?;
     check_opening(alloc, source)
 }
 

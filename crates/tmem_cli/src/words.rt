@@ -1,6 +1,5 @@
 //! What the program answers to the words of a command line.
 ghost use Rattle.std.specs.Prelude.{◌≡◌, ◌≤◌, false, if◌then◌else◌, None, ℕ, List, map, option_map, string_bytes, IfErr, IfOk, IfSome, IsSome, MatchResult, OnErr, OnOk};
-ghost use Rattle.std.specs.Io.KnownBytes.{Keeps};
 ghost use Rattle.clap.specs.Values.{kind_of};
 ghost use Rattle.tmem_script.specs.Errors.{IsUnread};
 ghost use Rattle.tmem_script.specs.Scripts.{IsScriptText};
@@ -24,7 +23,7 @@ use std::sync::Wait;
 use std::thread::Threads;
 use tmem_advice::{StoreFailure, explain_check, explain_run, explain_store};
 use tmem_args::{Asked, Counting, Invocation, Making, Paths, Serving, Showing, Timing, asked_of};
-use tmem_run::{Notes, Played, play, print_line};
+use tmem_run::{Flushed, Notes, Played, flush_output, play, print_line};
 use tmem_script::{ProgramFailure, Script, ScriptError, WordsError, report};
 use tmem_threads::Work;
 
@@ -96,13 +95,13 @@ pub fn run_words<R: Read, W: Write, E: Write>(
 }
 
 /// Prints the failure of a run, if it failed, and answers the run's status.
-fn tell<E: Write>(outcome: &Result<(), ProgramFailure>, err: &mut E) -> u8
+fn tell<E: Write>(outcome: &Result<Flushed, ProgramFailure>, err: &mut E) -> u8
     ensures status { MatchResult outcome.now (λ _. result ≡ 0) (λ failure. result ≡ status_of failure) }
     ensures most { result ≤ 3 }
     ensures untold { OnOk outcome.now (err.new ≡ err.old) }
 {
     match outcome {
-        Ok(()) => 0,
+        Ok(_) => 0,
         Err(failure) => report(failure, err),
     }
 }
@@ -112,7 +111,7 @@ fn conclude<E: Write>(
     rt: &(impl Files<File = File> + AllocGlobal),
     told: Invocation,
     notes: &Notes,
-    outcome: Result<(), ProgramFailure>,
+    outcome: Result<Flushed, ProgramFailure>,
     err: &mut E,
 ) -> u8
     ensures status { MatchResult outcome (λ _. result ≡ 0) (λ failure. result ≡ status_of failure) }
@@ -191,19 +190,11 @@ fn answer<W: Write, E: Write>(refusal: &clap::Error, out: &mut W, err: &mut E) -
 }
 
 /// Prints help or the version.
-fn print<W: Write>(request: &clap::Error, out: &mut W) -> Result<(), ProgramFailure>
+fn print<W: Write>(request: &clap::Error, out: &mut W) -> Result<Flushed, ProgramFailure>
     ensures { IfErr result (λ failure. failure ≡ Output) }
 {
     write!(out, "{request}").map_err(|_| ProgramFailure::Output)?;
-    flush(out)
-}
-
-/// Flushes what was printed.
-pub(crate) fn flush<W: Write>(out: &mut W) -> Result<(), ProgramFailure>
-    ensures kept { Keeps (W.contents out.old) (W.contents out.new) }
-    ensures failed { IfErr result (λ failure. failure ≡ Output) }
-{
-    out.flush().map_err(|_| ProgramFailure::Output)
+    flush_output(out)
 }
 
 /// Plays the script to its end, and flushes what was printed.
@@ -214,7 +205,7 @@ fn run<R: Read, W: Write>(
     out: &mut W,
     device: &mut Option<Played>,
     notes: &mut Notes,
-) -> Result<(), ProgramFailure>
+) -> Result<Flushed, ProgramFailure>
     requires { device.old ≡ None }
     ensures played { OnOk result (PlaysRead (MayBeRead (option_map (λ text. text.now) paths.entry.script) (R.remaining input.old)) (option_map (λ text. text.now) paths.entry.disk) device.new (W.contents out.old) (W.contents out.new)) }
     ensures failed { IfErr result (IsWhyNotPlayed (MayBeRead (option_map (λ text. text.now) paths.entry.script) (R.remaining input.old)) (option_map (λ text. text.now) paths.entry.disk) device.new) }
@@ -224,7 +215,7 @@ fn run<R: Read, W: Write>(
 {
     let script = script_of(rt, paths.script, input, notes)?;
     play(rt, script, paths.disk, out, device, notes)?;
-    flush(out)
+    flush_output(out)
 }
 
 /// Lets threads count up, and prints their totals.
@@ -233,7 +224,7 @@ fn count<W: Write>(
     counting: Counting,
     out: &mut W,
     notes: &mut Notes,
-) -> Result<(), ProgramFailure>
+) -> Result<Flushed, ProgramFailure>
     ensures counted { OnOk result (CountsUp (record { workers = counting.entry.workers; turns = counting.entry.turns }) (option_map (λ text. text.now) counting.entry.disk) (W.contents out.old) (W.contents out.new)) }
     ensures failed { IfErr result IsWhyNotCounted }
 {
@@ -243,7 +234,7 @@ fn count<W: Write>(
     };
     let totals = count_on(rt, work, counting.disk, notes)?;
     print_line(out, TotalsText(totals))?;
-    flush(out)
+    flush_output(out)
 }
 
 /// Times the jobs of a service, in memory and in a file, and prints what each came to.
@@ -251,12 +242,12 @@ fn bench<W: Write>(
     rt: &(impl Files<File = File> + AllocGlobal + Threads + Wait + Clock + Sync),
     timing: Timing,
     out: &mut W,
-) -> Result<(), ProgramFailure>
+) -> Result<Flushed, ProgramFailure>
     ensures timed { OnOk result (TimesJobs timing.entry.job (W.contents out.old) (W.contents out.new)) }
     ensures failed { IfErr result IsWhyNotTimed }
 {
     run_bench(rt, timing, out)?;
-    flush(out)
+    flush_output(out)
 }
 
 /// Shows what is in a store.
@@ -264,11 +255,11 @@ fn show<W: Write>(
     rt: &(impl Files<File = File> + AllocGlobal),
     showing: Showing,
     out: &mut W,
-) -> Result<(), ProgramFailure>
+) -> Result<Flushed, ProgramFailure>
     ensures failed { IfErr result IsWhyNotShown }
 {
     show_store(rt, showing, out)?;
-    flush(out)
+    flush_output(out)
 }
 
 /// Reads the script to play, from its file or else from the input.

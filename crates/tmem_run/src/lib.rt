@@ -16,4 +16,4 @@ pub use counts::Lost;
 pub use device::{device_in_memory, made_file};
 pub use notes::{Notes, Refused};
 pub use playing::{Played, play, play_on};
-pub use print::print_line;
+pub use print::{Flushed, flush_output, print_line};

@@ -1,6 +1,6 @@
 //! Prints lines: of replies, and of the state.
 ghost use Rattle.std.specs.Prelude.{◌≡◌, ◌++◌, ℕ, List, true, IfSome, IfErr, IfOk, OnOk, codes, if◌then◌else◌};
-ghost use Rattle.std.specs.Io.KnownBytes.{Appends};
+ghost use Rattle.std.specs.Io.KnownBytes.{Appends, Keeps};
 ghost use Rattle.tmem_core.specs.Program.{Program};
 ghost use Rattle.tmem_script.specs.declared.failure.ProgramFailure.TheVariants.{Output};
 ghost use Rattle.tmem_world.specs.WorldModel.{WorldModel, present};
@@ -23,6 +23,23 @@ pub fn print_line<W: Write, T: Display + Drop>(out: &mut W, text: T) -> Result<(
     ensures failed { IfErr result (λ failure. failure ≡ Output) }
 {
     writeln!(out, "{text}").map_err(|_| ProgramFailure::Output)
+}
+
+/// Shows that an output was flushed: only `flush_output` makes one, so who has to hand one back has called it.
+#[derive(Drop)]
+pub struct Flushed {
+    is_flushed: (),
+}
+
+/// Flushes what was printed.
+pub fn flush_output<W: Write>(out: &mut W) -> Result<Flushed, ProgramFailure>
+    ensures kept { Keeps (W.contents out.old) (W.contents out.new) }
+    ensures failed { IfErr result (λ failure. failure ≡ Output) }
+{
+    match out.flush() {
+        Ok(()) => Ok(Flushed { is_flushed: () }),
+        Err(_) => Err(ProgramFailure::Output),
+    }
 }
 
 /// Prints the present state, or the refusal where no session stands.

@@ -16,5 +16,5 @@ returns-clause-flawed g c same = record {
   told = c.in-Ok.ensures.told;
   limits = c.in-Ok.ensures.limits;
   no_json = c.in-Ok.ensures.no_json;
-  printed = Appends-keeps _ _ _ _ (subst (λ (fs : List Flaw). Appends (g.W.Write.contents c.args.out.now) (g.W.Write.contents c.print_flaws.new.out) (lines_of fs)) c.deref.ensures.value c.in_ok-print_flaws.ensures.lines) c.flush.ensures.kept;
+  printed = Appends-keeps _ _ _ _ (subst (λ (fs : List Flaw). Appends (g.W.Write.contents c.args.out.now) (g.W.Write.contents c.print_flaws.new.out) (lines_of fs)) c.deref.ensures.value c.in_ok-print_flaws.ensures.lines) c.flush_output.ensures.kept;
 }

@@ -9,7 +9,7 @@ pub returns-clause-played : goal.returns-clause-played
 returns-clause-played g c =
     let script = c.in_ok-script.script in
     let read = c.in_ok-script.ensures.script in
-    ok_of c.flush.result (
+    ok_of c.flush_output.result (
       read.0,
       read.1,
       record {
@@ -18,7 +18,7 @@ returns-clause-played g c =
         entries = script.entries.items;
         script = read.2;
         layout = c.in_ok-play.ensures.fits;
-        played = PlaysWhere-keeps _ _ script.vars script.slots script.entries.items _ _ _ c.in_ok-play.ensures.played c.flush.ensures.kept;
+        played = PlaysWhere-keeps _ _ script.vars script.slots script.entries.items _ _ _ c.in_ok-play.ensures.played c.flush_output.ensures.kept;
       },
     )
 
@@ -27,7 +27,7 @@ returns-clause-failed g c =
     let script = c.in_ok-script.script in
     let read = c.in_ok-script.ensures.script in
     let disk = option_map (λ (text : Bor (List ℕ)). text.now) c.args.paths.disk in
-    IfErr-weaker c.flush.result _ _
+    IfErr-weaker c.flush_output.result _ _
     (λ f is. inr (
       read.0,
       read.1,
@@ -39,9 +39,9 @@ returns-clause-failed g c =
         inr (c.in_ok-play.ensures.fits, subst (λ x. StopsWhere disk c.play.new.device script.vars script.slots script.entries.items x) (sym is) (output_stops disk c.play.new.device script.vars script.slots script.entries.items _ _ c.in_ok-play.ensures.played)),
       ),
     ))
-    c.flush.ensures.failed
+    c.flush_output.ensures.failed
 
 pub returns-clause-withheld : goal.returns-clause-withheld
 returns-clause-withheld g c = λ some.
     let script = c.in_ok-script.script in
-    err_of _ c.flush.result (λ none. absurd (hands_back c.args.paths.disk c.play.new.device script.vars script.slots script.entries.items _ _ some c.in_ok-play.ensures.played none))
+    err_of _ c.flush_output.result (λ none. absurd (hands_back c.args.paths.disk c.play.new.device script.vars script.slots script.entries.items _ _ some c.in_ok-play.ensures.played none))
