@@ -9,7 +9,9 @@ use Rattle.tmem_spine.specs.Views.{PassRoleView}
 use Rattle.tmem_tentative.specs.declared.attempt.Attempt.{Attempt}
 use Rattle.tmem_tree.specs.declared.settled.Settled.{Settled}
 use Rattle.tmem_tree.specs.declared.tx.Tx.{Tx}
-use Rattle.tmem_desk.specs.Asking.{Store, SettlesTx}
+use Rattle.tmem_requests.specs.declared.answer.Answer.{Answer}
+use Rattle.tmem_requests.specs.declared.proposal.Proposal.{Proposal}
+use Rattle.tmem_desk.specs.Asking.{Store, SettlesProposal, SettlesTx}
 
 -- an attempt of a plan that is settled
 pub settles_tx : (s : Store) (tx : Tx) (old mid new : PassRoleView) (answer : Result Settled Fault) (settled : Settled) → KnowsMore old mid
@@ -30,3 +32,17 @@ pub knows_again_elsewhere : (s : Store) (attempt : Attempt) (old mid new : PassR
 knows_again_elsewhere s attempt old mid new answer f more settles is =
     knows_more s.start s.opening s.program attempt old answer new (subst (λ (r : Result Settled Fault). committed_by r attempt.effect ≡ []) (sym is) refl)
     (settles_later s.start s.opening s.program attempt old mid answer new more settles)
+
+-- a proposal that is settled after attempts that committed nothing
+pub proposal_later : (s : Store) (proposal : Proposal) (old mid new : PassRoleView) (given : Answer) → KnowsMore old mid → SettlesProposal s proposal mid given new → SettlesProposal s proposal old given new
+proposal_later s proposal old mid new given more settled =
+    record {
+      attempt = settled.attempt;
+      made = settled.made;
+      result = settled.result;
+      then = settled.then;
+      settles = settles_later s.start s.opening s.program settled.attempt old mid settled.result settled.then more settled.settles;
+      knows = settled.knows;
+      tells = settled.tells;
+      end = settled.end;
+    }

@@ -4,7 +4,9 @@ ghost use Rattle.std.specs.Io.KnownBytes.{Appends};
 ghost use Rattle.tmem_front.specs.Settling.{SeesMore};
 ghost use Rattle.tmem_spine.specs.History.{count};
 ghost use Rattle.tmem_lines.specs.Lines.{HoldsRestOf};
+ghost use Rattle.tmem_lines.specs.Views.{LinesView};
 ghost use Rattle.tmem_desk.specs.Asking.{store};
+ghost use Rattle.tmem_desk.specs.Desks.{DeskView};
 ghost use Rattle.tmem_desk.specs.Failing.{EndsBy, IsLast, IsUnprinted, IsMemoryOrOutput, OrMemory, PassesAll, TakesPart, TakesRest, TellsAll, TellsWhy, TriesUntil};
 ghost use Rattle.tmem_desk.specs.Held.{desk_view};
 ghost use Rattle.tmem_desk.specs.Serving.{by, Finishes, Splits, TakesAll, RunsPiece, ServesPiece, TakesLast, RunsLast, RunsEnd, ServesEnd, with_closed};
@@ -207,13 +209,32 @@ impl<N: ServedNaming> Desk<N> {
         let fault = why_ended(fault, service.front.fault(service.rt));
         self.pass_over(service, lines)?;
         self.close_waiting()?;
+        self.give_last(service, fault, out)
+    }
+
+    // Prints all that is told at last, where the store cannot go on for this fault.
+    fn give_last<R, D: Disk + Drop, T: Invariants + Drop, S: StoredSteps + Drop, W: Write>(
+        &mut self,
+        service: &Service<R, D, N, T, S>,
+        fault: Fault,
+        out: &mut W,
+    ) -> Result<(), DeskFailure>
+        ensures never { IsErr result }
+        ensures ends { IfErr result (EndsBy (Appends (W.contents out.old) (W.contents out.new))) }
+        ensures memory { fault ≡ Fault.Memory → IfErr result (IsMemoryOrOutput (Appends (W.contents out.old) (W.contents out.new))) }
+        ensures told { IfErr result (λ e. (text : List ℕ) (held : LinesView) (mid over : DeskView) (passes : PassesAll (store N.name.start N.opening N.program N.arities N.always) text held mid over) → desk_view self.old ≡ with_closed over → TellsWhy (store N.name.start N.opening N.program N.arities N.always) (λ texts. Splits text texts held) mid (desk_view self.new) (Appends (W.contents out.old) (W.contents out.new)) e) }
+    {
         let durable = self.durable_at_last(service, &fault);
         let told = mem::replace(&mut self.told, Vec::new(self.alloc));
         let Ok(last) = all_last(self.alloc, told, durable, &fault) else {
             return Err(DeskFailure::Fault(Fault::Memory));
         };
-        self.print(&last, out)?;
-        Err(DeskFailure::Fault(fault))
+        let printed = self.print(&last, out);
+        drop(last);
+        match printed {
+            Ok(()) => Err(DeskFailure::Fault(fault)),
+            Err(failure) => Err(failure),
+        }
     }
 
     // How many transactions are durable, where the store cannot go on. `None` where memory did not suffice: what was told by then is open.

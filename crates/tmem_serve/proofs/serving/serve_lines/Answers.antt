@@ -134,3 +134,9 @@ returns-in_err-flush-in-Ok-clause-stopped g c =
     let came = subst (Consumes rest left) (sym piece) read in
     err_is (StopsInput s v unread left before flushed) c.from_residual-in_err-flush-in-Ok.result c.in_err-flush-in-Ok.field-0.0 c.from_residual-in_err-flush-in-Ok.ensures.1
     (piece_unflushed s v unread before met (desk_view c.serve.new.self) c.loop.lines c.serve.new.lines rest left after given flushed _ c.in_err-flush-in-Ok.field-0.0 so came c.in_ok-serve-in-Ok.ensures.serves c.flush.ensures.kept c.in_err-flush-in-Ok.ensures.failed)
+
+pub first_of-requires : goal.first_of-requires
+first_of-requires g c =
+    let long : length c.read_some.new.piece ≡ c.loop.piece.len = omega arith in
+    let same : c.deref.result.now ≡ c.read_some.new.piece = c.deref.ensures.value ∙ take_at c.read_some.new.piece _ c.loop.piece.len long in
+    subst (λ (xs : List ℕ). c.in-Ok.count ≤ length xs) (sym same) c.in-Ok.ensures.within

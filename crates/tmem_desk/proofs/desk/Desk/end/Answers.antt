@@ -1,7 +1,8 @@
 use Rattle.std.specs.Io.KnownBytes.{Appends}
 use Rattle.tmem_desk.specs.Asking.{store}
 use Rattle.tmem_desk.specs.Held.{desk_view}
-use Rattle.tmem_desk.proofs.Giving.{on_ok_both, serves_end}
+use Rattle.std.proofs.lemmas.Result.{IfOk-from_err}
+use Rattle.tmem_desk.proofs.Giving.{ends_unprinted, on_ok_both, serves_end}
 use Rattle.std.proofs.Common.{inl, ℕ, List}
 use Rattle.tmem_desk.specs.Serving.{RunsEnd}
 use Rattle.tmem_desk.specs.Failing.{IsLast}
@@ -26,3 +27,15 @@ returns-in_err-close_waiting-in-Ok-clause-told g c = handed c.from_residual.resu
 pub returns-in-Err-clause-told : goal.returns-in-Err-clause-told
 returns-in-Err-clause-told g c =
     end_fails c.fail.result (store g.N.Naming.name.start g.N.StoreNaming.opening g.N.ProgramNaming.program g.N.ServedNaming.arities g.N.ServedNaming.always) c.run_last.new.lines c.fail.new.lines (λ (text : List ℕ). RunsEnd (store g.N.Naming.name.start g.N.StoreNaming.opening g.N.ProgramNaming.program g.N.ServedNaming.arities g.N.ServedNaming.always) text (desk_view c.args.self.now)) (desk_view c.args.self.now) (desk_view c.run_last.new.self) (desk_view c.fail.new.self) (Appends (g.W.Write.contents c.args.out.now) (g.W.Write.contents c.fail.new.out)) c.in-Err.fault c.in-Err.ensures.err c.run_last.ensures.rest c.fail.ensures.memory c.fail.ensures.told
+
+pub returns-in_ok-close_waiting-in-Ok-clause-ends : goal.returns-in_ok-close_waiting-in-Ok-clause-ends
+returns-in_ok-close_waiting-in-Ok-clause-ends g c = c.give.ensures.ends
+
+pub returns-in_err-close_waiting-in-Ok-clause-ends : goal.returns-in_err-close_waiting-in-Ok-clause-ends
+returns-in_err-close_waiting-in-Ok-clause-ends g c = ends_unprinted c.from_residual.result (g.W.Write.contents c.args.out.now)
+
+pub returns-in-Err-clause-ends : goal.returns-in-Err-clause-ends
+returns-in-Err-clause-ends g c = c.fail.ensures.ends
+
+pub returns-in-Err-clause-serves : goal.returns-in-Err-clause-serves
+returns-in-Err-clause-serves g c = IfOk-from_err c.fail.result _ c.fail.ensures.never

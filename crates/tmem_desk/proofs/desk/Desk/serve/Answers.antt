@@ -1,5 +1,6 @@
 use Rattle.std.proofs.Common.{◌++◌, ◌∙◌, sym, ℕ, List}
 use Rattle.tmem_desk.specs.Held.{desk_view}
+use Rattle.std.proofs.lemmas.Result.{IfOk-from_err}
 use Rattle.tmem_desk.proofs.Giving.{on_ok_both, at_success}
 use Rattle.std.specs.Io.KnownBytes.{Appends}
 use Rattle.tmem_desk.specs.Asking.{store}
@@ -29,3 +30,12 @@ returns-in-Err-clause-told g c =
     piece_fails c.fail.result (store g.N.Naming.name.start g.N.StoreNaming.opening g.N.ProgramNaming.program g.N.ServedNaming.arities g.N.ServedNaming.always) c.args.piece.now c.run.new.lines c.fail.new.lines (λ (text : List ℕ). RunsPiece (store g.N.Naming.name.start g.N.StoreNaming.opening g.N.ProgramNaming.program g.N.ServedNaming.arities g.N.ServedNaming.always) (text ++ c.args.piece.now) c.fail.new.lines (desk_view c.args.self.now)) (desk_view c.args.self.now) (desk_view c.run.new.self) (desk_view c.fail.new.self) (Appends (g.W.Write.contents c.args.out.now) (g.W.Write.contents c.fail.new.out)) c.in-Err.fault
     (λ text stands. c.in-Err.ensures.err (text ++ c.args.piece.now) (at_success c.add.result (sym c.is_err.ensures.value ∙ c.if-is_err.false) c.add.ensures.ok text stands))
     c.fail.ensures.memory c.fail.ensures.told
+
+pub returns-in-Ok-clause-ends : goal.returns-in-Ok-clause-ends
+returns-in-Ok-clause-ends g c = c.give.ensures.ends
+
+pub returns-in-Err-clause-ends : goal.returns-in-Err-clause-ends
+returns-in-Err-clause-ends g c = c.fail.ensures.ends
+
+pub returns-in-Err-clause-serves : goal.returns-in-Err-clause-serves
+returns-in-Err-clause-serves g c = IfOk-from_err c.fail.result _ c.fail.ensures.never

@@ -1,5 +1,5 @@
-use Rattle.std.proofs.Common.{◌≡◌, ℕ, ℤ, map}
-use Rattle.tmem_desk.proofs.Seen.{some_values}
+use Rattle.std.proofs.Common.{◌≡◌, ◌∙◌, ℕ, ℤ, List, ap, length, map}
+use Rattle.tmem_desk.proofs.Seen.{as_many, some_values}
 use Rattle.tmem_desk.proofs.service.Service.see.Goals as goal
 
 pub returns-clause-sees : goal.returns-clause-sees
@@ -11,3 +11,9 @@ returns-clause-sees g c =
       asked = c.in_ok-pairs.ensures.vars;
       seen = some_values c.in_ok-pairs.pairs.items c.in_ok-count.field-0.values.items _ these c.in_ok-count.ensures.values;
     }
+
+pub paired-requires : goal.paired-requires
+paired-requires g c = ap (λ (l : List ℤ). length l) c.deref.ensures.value ∙ as_many c.in_ok-count.field-0.values.items c.args.vars.now _ c.in_ok-count.ensures.values
+
+pub returns-in_err-pairs-clause-knows : goal.returns-in_err-pairs-clause-knows
+returns-in_err-pairs-clause-knows g c = c.moment.ensures.knows

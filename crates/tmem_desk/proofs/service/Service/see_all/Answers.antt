@@ -1,5 +1,6 @@
 use Rattle.std.proofs.Common.{◌≡◌, ℕ, ℤ, Bool, List, length, map, sym, ◌∙◌, subst, ap}
 use Rattle.std.specs.Prelude.{filter, slice_get}
+use Rattle.std.proofs.lemmas.List.{length-map}
 use Rattle.tmem_effect.specs.Names.{has_name}
 use Rattle.tmem_effect.proofs.Laws.{length-values-fold}
 use Rattle.tmem_seats.specs.Histories.{state_after_history}
@@ -24,3 +25,6 @@ returns-clause-answers g c =
           all_values known c.in_ok-count.field-0.values.items c.args.self.now.vars long
           (c.in_ok-count.ensures.values ∙ ap (map (λ (var : ℕ). slice_get known var)) vars);
     }
+
+pub registered-requires : goal.registered-requires
+registered-requires g c = ap (λ (l : List Bool). length l) (c.deref-2.ensures.value ∙ c.in_ok-count.ensures.has) ∙ length-map c.args.self.now.names.now _

@@ -1,5 +1,5 @@
 use Rattle.tmem_front.specs.Settling.{KnowsMore}
-use Rattle.tmem_desk.proofs.service.Service.propose.Given as goal
+use Rattle.tmem_desk.proofs.service.Service.settle_attempt.Given as goal
 
 -- the attempts so far committed nothing
 abbrev pub invariant-loop : goal.invariant-loop
