@@ -8,7 +8,7 @@ use crate::figures::{Figures, Work};
 use std::alloc::AllocGlobal;
 use std::fs::{self, File, Files};
 use std::rt::Clock;
-use std::time::Duration;
+use std::time::{Duration, Instant};
 use tmem_disk::{Disk, SimDisk};
 use tmem_fault::Fault;
 use tmem_file::{FileDisk, NewFile};
@@ -81,15 +81,24 @@ pub fn two_syncs<R: Clock + Files<File = File> + AllocGlobal>(
 {
     match medium {
         Medium::Memory => sync_on(rt, SimDisk::new(rt.alloc(), SYNCED_BYTES as u64)?, time),
-        Medium::File(path) => {
-            let disk = new_file(rt, path, SYNCED_BYTES as u64)?;
-            let had = sync_on(rt, disk, time);
-            removed(rt, path, had)
-        }
+        Medium::File(path) => sync_on_file(rt, path, time),
     }
 }
 
-// Writes a batch, and then a byte, as a flush does.
+// The same of a new file, which is removed after it.
+fn sync_on_file<R: Clock + Files<File = File> + AllocGlobal>(
+    rt: &R,
+    path: &str,
+    time: Duration,
+) -> Result<Figures, BenchError>
+    ensures { IfOk result (λ had. had.work ≡ SyncTwice) }
+{
+    let disk = new_file(rt, path, SYNCED_BYTES as u64)?;
+    let had = sync_on(rt, disk, time);
+    removed(rt, path, had)
+}
+
+// What a device does by two syncs alone, for so long.
 fn sync_on<D: Disk + Drop, R: Clock>(
     rt: &R,
     mut disk: D,
@@ -100,17 +109,32 @@ fn sync_on<D: Disk + Drop, R: Clock>(
 {
     let start = now(rt)?;
     let mut had = Figures::zero(Work::SyncTwice);
+    sync_until(rt, &mut disk, start, time, &mut had)?;
+    had.time = since(rt, start)?;
+    Ok(had)
+}
+
+// Writes a batch, and then a byte, as a flush does, until so much time is over.
+fn sync_until<D: Disk, R: Clock>(
+    rt: &R,
+    disk: &mut D,
+    start: Instant,
+    time: Duration,
+    had: &mut Figures,
+) -> Result<(), BenchError>
+    requires { SYNCED_BYTES ≤ (D.view disk.old).capacity }
+    ensures { had.new.work ≡ had.old.work }
+{
     let batch = [1; SYNCED_BYTES];
     for _ in 0..u64::MAX {
-        put(&mut disk, &batch)?;
-        put(&mut disk, &batch[..1])?;
+        put(disk, &batch)?;
+        put(disk, &batch[..1])?;
         had.operations = had.operations.saturating_add(1);
         if since(rt, start)? >= time {
             break;
         }
     }
-    had.time = since(rt, start)?;
-    Ok(had)
+    Ok(())
 }
 
 // Writes at the start of a device, and syncs.

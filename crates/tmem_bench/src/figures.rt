@@ -107,20 +107,32 @@ pub struct Line {
 
 impl fmt::Display for Line {
     fn fmt<W: fmt::Write>(&self, f: &mut fmt::Formatter<W>) -> fmt::Result {
-        let (callers, flusher) = (self.callers.count(), self.callers.flusher());
-        write!(
-            f,
-            "{:<8}{:<25}{callers:>7}  {flusher:<9}",
-            self.device,
-            self.had.work.name()
-        )?;
+        write_job(f, self.device, self.had.work.name(), self.callers)?;
         write!(f, "{:>15.0}{:>9}", self.had.rate(), self.had.flushes)?;
-        match self.baseline {
-            Some(other) => {
-                let ratio = self.had.rate() / other.rate();
-                write!(f, "{:>12.0}{ratio:>8.2}", other.rate())
-            }
-            None => write!(f, "{:>12}{:>8}", "-", "-"),
+        write_baseline(f, self.had, self.baseline)
+    }
+}
+
+fn write_job<W: fmt::Write>(
+    f: &mut fmt::Formatter<W>,
+    device: &str,
+    work: &str,
+    callers: Callers,
+) -> fmt::Result {
+    let (callers, flusher) = (callers.count(), callers.flusher());
+    write!(f, "{device:<8}{work:<25}{callers:>7}  {flusher:<9}")
+}
+
+fn write_baseline<W: fmt::Write>(
+    f: &mut fmt::Formatter<W>,
+    had: Figures,
+    baseline: Option<Figures>,
+) -> fmt::Result {
+    match baseline {
+        Some(other) => {
+            let ratio = had.rate() / other.rate();
+            write!(f, "{:>12.0}{ratio:>8.2}", other.rate())
         }
+        None => write!(f, "{:>12}{:>8}", "-", "-"),
     }
 }

@@ -35,15 +35,14 @@ pub fn open_again<R: Clock + Files<File = File> + AllocGlobal + Threads + Wait +
 // Fills the log of a new file, and then opens it and reads it, again and again.
 fn fill_and_open<R: Clock + Files<File = File> + AllocGlobal + Threads + Wait + Sync>(
     rt: &R,
-    mut disk: FileDisk,
+    disk: FileDisk,
     path: &str,
     time: Duration,
 ) -> Result<(Figures, Figures), BenchError>
     ensures opened { IfOk result (λ had. had.0.work ≡ Open) }
     ensures read { IfOk result (λ had. had.1.work ≡ ReadTwice) }
 {
-    format(&mut disk, MANY, SLOTS)?;
-    with_bank(rt, MANY, On::Store(disk, StoreUse::Fill))?;
+    fill(rt, disk)?;
     let start = now(rt)?;
     let (mut opened, mut read) = (Figures::zero(Work::Open), Figures::zero(Work::ReadTwice));
     for _ in 0..u64::MAX {
@@ -54,6 +53,16 @@ fn fill_and_open<R: Clock + Files<File = File> + AllocGlobal + Threads + Wait + 
         read = read.with(read_twice(rt, path)?);
     }
     Ok((opened, read))
+}
+
+// Fills the log of a new file.
+fn fill<R: Clock + AllocGlobal + Threads + Wait + Sync>(
+    rt: &R,
+    mut disk: FileDisk,
+) -> Result<(), BenchError> {
+    format(&mut disk, MANY, SLOTS)?;
+    with_bank(rt, MANY, On::Store(disk, StoreUse::Fill))?;
+    Ok(())
 }
 
 // Opens a store, and drops it.

@@ -4,3 +4,6 @@ mod Again
 mod Looks
 mod Planned
 mod Refused
+mod Settled
+mod Told
+mod There

@@ -20,6 +20,7 @@ ghost use Rattle.tmem_front.specs.Settling.{SettlesPass, SettlesPlan};
 
 use crate::brief_lock::BriefLock;
 use crate::conditions::Conditions;
+use crate::deciding::decide;
 use crate::pass::Pass;
 use crate::pool::Pool;
 use crate::returned::Returned;
@@ -151,7 +152,7 @@ impl<D: Disk + Drop, N: StoreNaming, T: Invariants + Drop, S: StoredSteps + Drop
         ensures settled { SettlesPass N.name.start N.opening N.program attempt.now seat.old result seat.new }
         ensures present { is_stale (state_after_history N.opening (mutex_guard_value core.entry).committed) attempt.now.reads.entries ≡ false → result ≢ Err Fault.Conflict }
     {
-        let decision = core.decide(&self.spine, seat, attempt);
+        let decision = decide(&mut core, &self.spine, seat, attempt);
         self.unlock_and_wake(core, &decision, attempt);
         with_registers(decision, attempt)
     }

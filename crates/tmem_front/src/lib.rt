@@ -11,6 +11,7 @@
 mod brief_lock;
 mod closing;
 mod conditions;
+mod deciding;
 mod durably;
 mod front;
 mod opened;

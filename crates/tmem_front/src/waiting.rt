@@ -1,7 +1,7 @@
 // The calls that wait for other threads.
 ghost use Rattle.std.specs.Prelude.{ℕ, ℤ, List, ◌≡◌, ◌≢◌, ◌⊎◌, ◌<◌, ◌≤◌, true, false, [], Ok, Err, IfOk, IfErr, OnOk, length, IsTrue};
 ghost use Rattle.tmem_effect.specs.declared.effect.Effect.{Effect as EffectOf};
-ghost use Rattle.tmem_core.specs.Decisions.{answer_of};
+ghost use Rattle.tmem_core.specs.Decisions.{answer_of, RetriesAt};
 ghost use Rattle.tmem_core.specs.SettleAnswer.{committed_by, is_stale};
 ghost use Rattle.tmem_effect.specs.Prefix.{IsPrefix};
 ghost use Rattle.tmem_tree.specs.Plans.{IsShortTx, FitsSteps, FitsVariables, FitsNames, FitsShapes};
@@ -14,6 +14,7 @@ ghost use Rattle.tmem_seats.specs.Seats.{HasMoreOrShut, HasFlushedOrEnded, HasRo
 ghost use Rattle.tmem_seats.specs.Histories.{state_after_history};
 ghost use Rattle.tmem_front.specs.Settling.{SettlesPass, SettlesAtLast, SettlesPlan};
 
+use crate::deciding::decide;
 use crate::front::Front;
 use crate::pace::Pace;
 use crate::pass::Pass;
@@ -171,17 +172,32 @@ impl<D: Disk + Drop, N: StoreNaming, T: Invariants + Drop, S: StoredSteps + Drop
         ensures settled { SettlesPass N.name.start N.opening N.program attempt.now seat.old (answer_of result attempt.now.registers) seat.new }
         ensures present { is_stale (state_after_history N.opening (mutex_guard_value core.entry).committed) attempt.now.reads.entries ≡ false → result ≢ Err Fault.Conflict }
     {
-        let decision = core.decide(&self.spine, seat, attempt);
-        match decision {
+        let decision = decide(&mut core, &self.spine, seat, attempt);
+        self.wait_or_wake(rt, patience, core, &decision, attempt, how);
+        decision
+    }
+
+    // Waits under the core's lock where the decision asks for that, and lets it go.
+    fn wait_or_wake<R: Wait, P: Patience>(
+        &self,
+        rt: &R,
+        patience: &P,
+        core: MutexGuard<CoreSeat<N, T>>,
+        decision: &Result<Decision, Fault>,
+        attempt: &Attempt,
+        how: Turn,
+    )
+        requires { RetriesAt (count N.name.start (mutex_guard_value core).committed) decision.now }
+    {
+        match *decision {
             Ok(Decision::Retry(at)) => {
                 drop(self.wait_for_another(rt, patience, core, at, how.number, attempt));
             }
             Err(Fault::Full) if how.waits_for_room => {
                 drop(self.wait_for_room(rt, patience, core));
             }
-            _ => self.unlock_and_wake(core, &decision, attempt),
+            _ => self.unlock_and_wake(core, decision, attempt),
         }
-        decision
     }
 
     // Evaluates a plan and settles the attempt under one hold of the core's lock, so that no other thread comes in between.

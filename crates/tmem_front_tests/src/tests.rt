@@ -1,4 +1,5 @@
 //! Scenes that threads play on a front.
+mod commits;
 mod endings;
 mod failures;
 mod flushers;

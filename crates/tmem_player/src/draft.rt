@@ -65,12 +65,20 @@ impl Draft {
 
     /// The whole row.
     pub(crate) fn finish(mut self) -> Result<Row, FormError> {
+        self.end()?;
+        Ok(self.into_row())
+    }
+
+    fn end(&mut self) -> Result<(), FormError> {
         if self.acts.is_empty() {
             self.need_session()?;
         }
-        self.end_session()?;
+        self.end_session()
+    }
+
+    fn into_row(self) -> Row {
         let Draft { numbers, acts, .. } = self;
-        Ok(Row { numbers, acts })
+        Row { numbers, acts }
     }
 
     // A row that begins with something for a world opens the device as the program does.

@@ -1,19 +1,20 @@
 //! Evaluates a transaction from the start again and again, and by a cursor. A call that is refused is told, and made once more on
 //! the same state.
-ghost use Rattle.std.specs.Prelude.{◌≡◌, IfOk};
+ghost use Rattle.std.specs.Prelude.{◌≡◌, ◌≤◌, IfOk};
 ghost use Rattle.tmem_tree.specs.StepAnswers.{StepMeanings};
 ghost use Rattle.tmem_tree.specs.Plans.{FitsSteps};
 ghost use Rattle.tmem_tentative.specs.Cursors.{StandsIn, IsAnswer};
 
+use crate::attempts::{are_alike, are_read_alike, print_attempt};
 use crate::calls::CallCounts;
 use crate::failure::PlayFailure;
-use crate::printing::{print_fault, print_name, print_numbers, print_pair};
+use crate::printing::print_fault;
 use std::alloc::Global;
-use std::io::{self, Write};
+use std::io::Write;
 use tmem_builtins::{names, nonneg, ordered, sum};
-use tmem_fault::{Fault, Name};
-use tmem_tentative::{Attempt, Cursor, Ending, Outcome, Probe, Reads, evaluate};
-use tmem_tree::{Footprint, MAX_CHECKS, MAX_TURNS, Plan, REGISTERS, Shape, StoredSteps, Tx};
+use tmem_fault::Fault;
+use tmem_tentative::{Attempt, Cursor, Outcome, Probe, Reads, evaluate};
+use tmem_tree::{Footprint, MAX_CHECKS, MAX_TURNS, Plan, Shape, StoredSteps, Tx};
 
 /// Evaluates a transaction in both ways, where the variables have these values, and each further one 0. Prints what it comes
 /// to, and how often each way called a stored step; or that the two differ.
@@ -81,9 +82,24 @@ fn evaluate_plan<S: StoredSteps, W: Write>(
 {
     let _ = calls.take_steps();
     let plain = by_evaluate(alloc, plan, steps, values, calls, out)?;
+    evaluate_again(alloc, plan, values, steps, calls, &plain, out)
+}
+
+// Evaluates a plan by a cursor too, and prints what both ways come to.
+fn evaluate_again<S: StoredSteps, W: Write>(
+    alloc: Global,
+    plan: &Plan,
+    values: &[i64],
+    steps: &S,
+    calls: &CallCounts,
+    plain: &Trial,
+    out: &mut W,
+) -> Result<(), PlayFailure>
+    requires { FitsSteps (S.arities steps.now) plan.now.tree }
+{
     let by_plain = calls.take_steps();
     let other = by_cursor(alloc, plan, steps, values, out)?;
-    print_trials(&plain, &other, (by_plain, calls.take_steps()), out)
+    print_trials(plain, &other, (by_plain, calls.take_steps()), out)
 }
 
 // Prints the attempt that both ways come to, and how often each called a stored step; or that they differ.
@@ -135,20 +151,87 @@ fn by_evaluate<S: StoredSteps, W: Write>(
     let mut answers = [false; MAX_CHECKS];
     let mut answered = 0;
     for _ in 0..=MAX_TURNS {
-        let given = &answers[..answered];
-        match evaluated(alloc, plan, steps, &reads, given, calls, out)? {
-            Outcome::Need(var) => read(&mut reads, var, value_of(values, var), out)?,
-            Outcome::Probe(probe) => {
-                if answered == MAX_CHECKS {
-                    return Ok(None);
-                }
-                answers[answered] = holds(&probe);
-                answered += 1;
-            }
-            Outcome::Ended(attempt) => return Ok(where_read(attempt, &reads)),
+        let turn = evaluate_once(
+            alloc,
+            plan,
+            steps,
+            values,
+            &mut reads,
+            &mut answers,
+            &mut answered,
+            calls,
+            out,
+        )?;
+        if let Turn::Stop(trial) = turn {
+            return Ok(trial);
         }
     }
     Ok(None)
+}
+
+// What comes of one evaluation.
+#[derive(Drop)]
+enum Turn {
+    // It is to be evaluated once more.
+    GoOn,
+    // This is what it comes to.
+    Stop(Trial),
+}
+
+// Evaluates a plan from the start, and adds the value or the answer that it needs.
+fn evaluate_once<S: StoredSteps, W: Write>(
+    alloc: Global,
+    plan: &Plan,
+    steps: &S,
+    values: &[i64],
+    reads: &mut Reads,
+    answers: &mut [bool; MAX_CHECKS],
+    answered: &mut usize,
+    calls: &CallCounts,
+    out: &mut W,
+) -> Result<Turn, PlayFailure>
+    requires steps { FitsSteps (S.arities steps.now) plan.now.tree }
+    requires few { answered.old ≤ 8 }
+    ensures { answered.new ≤ 8 }
+{
+    let given = &answers[..*answered];
+    let outcome = evaluated(alloc, plan, steps, reads, given, calls, out)?;
+    add_needed(outcome, values, reads, answers, answered, out)
+}
+
+// Adds the value or the answer that an evaluation needs.
+fn add_needed<W: Write>(
+    outcome: Outcome,
+    values: &[i64],
+    reads: &mut Reads,
+    answers: &mut [bool; MAX_CHECKS],
+    answered: &mut usize,
+    out: &mut W,
+) -> Result<Turn, PlayFailure>
+    requires { answered.old ≤ 8 }
+    ensures { answered.new ≤ 8 }
+{
+    match outcome {
+        Outcome::Need(var) => {
+            read(reads, var, value_of(values, var), out)?;
+            Ok(Turn::GoOn)
+        }
+        Outcome::Probe(probe) => Ok(add_answer(&probe, answers, answered)),
+        Outcome::Ended(attempt) => Ok(Turn::Stop(where_read(attempt, reads))),
+    }
+}
+
+// Adds the answer of a test, if there is room for it.
+fn add_answer(probe: &Probe, answers: &mut [bool; MAX_CHECKS], answered: &mut usize) -> Turn
+    requires { answered.old ≤ 8 }
+    ensures { answered.new ≤ 8 }
+{
+    if *answered == MAX_CHECKS {
+        return Turn::Stop(None);
+    }
+    answers[*answered] = holds(probe);
+    *answered += 1;
+    Turn::GoOn
 }
 
 // The attempt, if this is what it read.
@@ -203,10 +286,24 @@ fn by_cursor<S: StoredSteps, W: Write>(
     requires { FitsSteps (S.arities steps.now) plan.now.tree }
 {
     let mut cursor = new_cursor(alloc, plan, out)?;
+    go_on(&mut cursor, plan, steps, values, out)
+}
+
+// Lets a cursor go on to the end.
+fn go_on<S: StoredSteps, W: Write>(
+    cursor: &mut Cursor,
+    plan: &Plan,
+    steps: &S,
+    values: &[i64],
+    out: &mut W,
+) -> Result<Trial, PlayFailure>
+    requires steps { FitsSteps (S.arities steps.now) plan.now.tree }
+    requires stands { (m : StepMeanings) → S.is_stated steps.now m → StandsIn m plan.now cursor.old }
+{
     for _ in 0..=MAX_TURNS {
-        match gone_on(&mut cursor, plan, steps, values, out)? {
-            None => {}
-            Some(attempt) => return Ok(Some(attempt)),
+        let trial = gone_on(cursor, plan, steps, values, out)?;
+        if trial.is_some() {
+            return Ok(trial);
         }
     }
     Ok(None)
@@ -269,87 +366,4 @@ fn resumed<S: StoredSteps, W: Write>(
             Ok(cursor.resume(plan, steps)?)
         }
     }
-}
-
-// Whether two attempts are equal: their reads, in order, their endings, their registers and their effects.
-fn are_alike(one: &Attempt, other: &Attempt) -> bool {
-    one.ending == other.ending
-        && one.registers == other.registers
-        && are_read_alike(&one.reads, &other.reads)
-        && one.effect.writes.as_slice() == other.effect.writes.as_slice()
-        && one.effect.names.as_slice() == other.effect.names.as_slice()
-        && one.effect.retired.as_slice() == other.effect.retired.as_slice()
-}
-
-// Whether the same variables were read, with the same values, in the same order.
-fn are_read_alike(one: &Reads, other: &Reads) -> bool {
-    if one.len() != other.len() {
-        return false;
-    }
-    for index in 0..one.len() {
-        if one.get_index(index) != other.get_index(index) {
-            return false;
-        }
-    }
-    true
-}
-
-// Prints an attempt, without the end of its line.
-fn print_attempt<W: Write>(attempt: &Attempt, out: &mut W) -> io::Result<()> {
-    print_ending(attempt.ending, out)?;
-    print_reads(&attempt.reads, out)?;
-    print_registers(&attempt.registers, out)?;
-    print_writes(attempt.effect.writes.as_slice(), out)?;
-    out.write_all(b" names=")?;
-    print_names(attempt.effect.names.as_slice(), out)?;
-    print_retired(attempt.effect.retired.as_slice(), out)
-}
-
-fn print_ending<W: Write>(ending: Ending, out: &mut W) -> io::Result<()> {
-    match ending {
-        Ending::Normal => out.write_all(b"ended reads="),
-        Ending::Retry => out.write_all(b"retry reads="),
-        Ending::Abort(code) => write!(out, "aborted {code} reads="),
-        Ending::Broken(name) => write!(out, "broken {name} reads="),
-    }
-}
-
-fn print_reads<W: Write>(reads: &Reads, out: &mut W) -> io::Result<()> {
-    for (i, (var, value)) in reads.iter().enumerate() {
-        print_pair(i, *var, *value, out)?;
-    }
-    Ok(())
-}
-
-// Prints the registers of an attempt, where one is not 0.
-fn print_registers<W: Write>(registers: &[i64; REGISTERS], out: &mut W) -> io::Result<()> {
-    out.write_all(b" registers=")?;
-    if *registers != [0; REGISTERS] {
-        print_numbers(registers, out)?;
-    }
-    Ok(())
-}
-
-fn print_writes<W: Write>(writes: &[(u16, i64)], out: &mut W) -> io::Result<()> {
-    out.write_all(b" writes=")?;
-    for (i, (var, value)) in writes.iter().enumerate() {
-        print_pair(i, *var, *value, out)?;
-    }
-    Ok(())
-}
-
-// Prints the names that an attempt retires, where there are some.
-fn print_retired<W: Write>(names: &[Name], out: &mut W) -> io::Result<()> {
-    if names.is_empty() {
-        return Ok(());
-    }
-    out.write_all(b" retired=")?;
-    print_names(names, out)
-}
-
-fn print_names<W: Write>(names: &[Name], out: &mut W) -> io::Result<()> {
-    for (i, name) in names.iter().enumerate() {
-        print_name(i, name, out)?;
-    }
-    Ok(())
 }

@@ -30,9 +30,11 @@
 //! list of a run is refused memory, one line says so, and the row goes on. Each line goes out by itself, but for those of a list.
 //!
 //! `reading` reads a row, and `draft` puts its entries together. `device` does what they do with the device, `handing` makes the
-//! closures that a world is opened with, `session` plays the events, and `evaluating` evaluates transactions.
+//! closures that a world is opened with, `session` plays the events, and `evaluating` evaluates transactions, whose
+//! `attempts` are compared and printed.
 #![tactic(auto)]
 
+mod attempts;
 mod calls;
 mod device;
 mod draft;

@@ -193,16 +193,22 @@ fn values_of(alloc: Global, value: &Value) -> Result<Vec<i64>, FormError> {
 // What is done to a device that needs no store.
 fn touch_of(alloc: Global, key: &str, body: &Value) -> Result<Touch, FormError> {
     if key == "write" {
-        let (at, bytes) = pair_of(body)?;
-        let at = at.as_u64().ok_or(FormError::NoForm)?;
-        return Ok(Touch::Write(at, bytes_of(alloc, bytes)?));
+        return write_of(alloc, body);
     }
-    match items_of(body)?.as_slice() {
-        [first, second] => pair_touch_of(key, first, second).ok_or(FormError::NoForm),
-        [first, second, third] => {
-            triple_touch_of(key, first, second, third).ok_or(FormError::NoForm)
-        }
-        _ => Err(FormError::NoForm),
+    listed_touch_of(key, items_of(body)?).ok_or(FormError::NoForm)
+}
+
+fn write_of(alloc: Global, body: &Value) -> Result<Touch, FormError> {
+    let (at, bytes) = pair_of(body)?;
+    let at = at.as_u64().ok_or(FormError::NoForm)?;
+    Ok(Touch::Write(at, bytes_of(alloc, bytes)?))
+}
+
+fn listed_touch_of(key: &str, items: &[Value]) -> Option<Touch> {
+    match items {
+        [first, second] => pair_touch_of(key, first, second),
+        [first, second, third] => triple_touch_of(key, first, second, third),
+        _ => None,
     }
 }
 

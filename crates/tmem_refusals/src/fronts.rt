@@ -2,6 +2,7 @@
 ghost use Rattle.std.specs.Prelude.{◌≡◌, length};
 ghost use Rattle.tmem_tree.specs.Plans.{FitsSteps, FitsVariables, FitsNames, FitsShapes};
 
+use crate::printing::{say_fault, say_line, say_number};
 use crate::tasks::{ENDING, Task};
 use std::alloc::Global;
 use std::rt::Clock;
@@ -67,14 +68,65 @@ fn settle_by<
     requires { length N.opening.values ≡ 4 }
 {
     for call in calls {
-        let tx = task.tx(alloc)?;
-        let _ = println!(rt; "{task:?}");
-        let plan = front.plan(tx)?;
-        let mut pass = front.pass(rt)?;
-        let _ = println!(rt; "by {call:?}");
-        settle_twice(rt, front, looker, &mut pass, &plan, *call)?;
+        settle_task(rt, alloc, front, looker, *call, task)?;
     }
     Ok(())
+}
+
+// Plans a transaction, and settles it.
+fn settle_task<
+    N: StoreNaming,
+    D: Disk + Drop,
+    T: Invariants + Drop,
+    S: StoredSteps + Drop,
+    R: Clock + Print + Wait,
+>(
+    rt: &R,
+    alloc: Global,
+    front: &Front<D, N, T, S>,
+    looker: &mut Pass<N>,
+    call: Call,
+    task: Task,
+) -> Result<(), Fault>
+    requires { length N.opening.values ≡ 4 }
+{
+    let tx = task.tx(alloc)?;
+    say_task(rt, task);
+    let plan = front.plan(tx)?;
+    settle_plan(rt, front, looker, &plan, call)
+}
+
+fn say_task<R: Print>(rt: &R, task: Task) {
+    let _ = println!(rt; "{task:?}");
+}
+
+// Settles a plan by a pass that has no memory yet.
+fn settle_plan<
+    N: StoreNaming,
+    D: Disk + Drop,
+    T: Invariants + Drop,
+    S: StoredSteps + Drop,
+    R: Clock + Print + Wait,
+>(
+    rt: &R,
+    front: &Front<D, N, T, S>,
+    looker: &mut Pass<N>,
+    plan: &Plan,
+    call: Call,
+) -> Result<(), Fault>
+    requires vars { length N.opening.values ≡ 4 }
+    requires steps { FitsSteps (S.arities front.now.steps) plan.now.tree }
+    requires variables { FitsVariables front.now.vars plan.now }
+    requires names { FitsNames N.program.names plan.now.tree }
+    requires shapes { FitsShapes N.program.tests plan.now }
+{
+    let mut pass = front.pass(rt)?;
+    say_call(rt, call);
+    settle_twice(rt, front, looker, &mut pass, plan, call)
+}
+
+fn say_call<R: Print>(rt: &R, call: Call) {
+    let _ = println!(rt; "by {call:?}");
 }
 
 // Settles a plan, and once more where that is refused memory.
@@ -162,9 +214,15 @@ fn say_state<
 >(rt: &R, front: &Front<D, N, T, S>, looker: &mut Pass<N>)
     requires { length N.opening.values ≡ 4 }
 {
-    let (count, durable) = (front.count(rt, looker), front.look(looker));
+    let counts = (front.count(rt, looker), front.look(looker));
     let (a, b) = (front.peek(rt, 0), front.peek(rt, 1));
     let (c, d) = (front.peek(rt, 2), front.peek(rt, 3));
+    print_state(rt, counts, &[a, b, c, d]);
+}
+
+fn print_state<R: Print>(rt: &R, counts: (u64, u64), values: &[i64; 4]) {
+    let (count, durable) = counts;
+    let [a, b, c, d] = values;
     let _ = println!(rt; "state count={count} durable={durable} values={a},{b},{c},{d}");
 }
 
@@ -178,19 +236,23 @@ fn read_values<
 >(rt: &R, front: &Front<D, N, T, S>, looker: &mut Pass<N>) -> Result<(), Fault>
     requires { length N.opening.values ≡ 4 }
 {
-    let _ = println!(rt; "values");
+    say_line(rt, "values");
     let values = match front.values(rt, looker, &[0, 1, 2, 3]) {
         Ok(values) => values,
         Err(fault) => {
-            let _ = println!(rt; "{fault}");
+            say_fault(rt, fault);
             say_state(rt, front, looker);
             front.values(rt, looker, &[0, 1, 2, 3])?
         }
     };
-    if let [a, b, c, d] = values.as_slice() {
+    say_values(rt, &values);
+    Ok(())
+}
+
+fn say_values<R: Print>(rt: &R, values: &[i64]) {
+    if let [a, b, c, d] = values {
         let _ = println!(rt; "values {a},{b},{c},{d}");
     }
-    Ok(())
 }
 
 // Calls that ask for no memory, to the end.
@@ -203,16 +265,27 @@ fn end<
 >(rt: &R, front: &Front<D, N, T, S>, looker: &mut Pass<N>) -> Result<(), Fault>
     requires { length N.opening.values ≡ 4 }
 {
-    let durable = front.flush_once(rt)?;
-    let _ = println!(rt; "durable {durable}");
+    say_number(rt, "durable", front.flush_once(rt)?);
     front.checkpoint(rt)?;
-    let _ = println!(rt; "checkpointed");
-    let durable = front.flush_with_room(rt)?;
-    let _ = println!(rt; "durable {durable}");
+    say_line(rt, "checkpointed");
+    say_number(rt, "durable", front.flush_with_room(rt)?);
+    shut(rt, front, looker)
+}
+
+// Makes one more pass, and shuts the front.
+fn shut<
+    N: StoreNaming,
+    D: Disk + Drop,
+    T: Invariants + Drop,
+    S: StoredSteps + Drop,
+    R: Print + Wait,
+>(rt: &R, front: &Front<D, N, T, S>, looker: &mut Pass<N>) -> Result<(), Fault>
+    requires { length N.opening.values ≡ 4 }
+{
     let _pass = front.pass(rt)?;
-    let _ = println!(rt; "pass");
+    say_line(rt, "pass");
     front.shut(rt);
-    let _ = println!(rt; "shut");
+    say_line(rt, "shut");
     say_state(rt, front, looker);
     Ok(())
 }

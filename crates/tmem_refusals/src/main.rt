@@ -9,6 +9,7 @@
 
 mod fronts;
 mod opening;
+mod printing;
 mod store;
 mod tasks;
 mod without;

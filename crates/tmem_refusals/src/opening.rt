@@ -1,10 +1,12 @@
 //! Opens the front.
 ghost use Rattle.std.specs.Prelude.{◌≡◌, length};
 ghost use Rattle.tmem_builtins.specs.Invariants.{is_not_negative};
+ghost use Rattle.tmem_invariants.specs.Answers.{MayCall, Gives};
 ghost use Rattle.tmem_front.specs.Held.{front_found, spine_of, front_steps, front_table};
 ghost use Rattle.tmem_refusals.specs.Stored.{stored};
 
 use crate::fronts::settle_all;
+use crate::printing::{say_fault, say_line, say_number};
 use crate::store::{SLOTS, VARS, content_of};
 use std::alloc::Global;
 use std::marker::Brand;
@@ -15,7 +17,7 @@ use tmem_disk::{Disk, SimDisk};
 use tmem_fault::Fault;
 use tmem_front::{OpenedFront, StoreNaming};
 use tmem_invariants::Invariants;
-use tmem_tables::{Invariant, Table};
+use tmem_tables::{Invariant, Table, Test};
 use tmem_tree::StoredSteps;
 
 /// Makes the invariant and its table, and opens the device with them. Where that is refused, it says so, and whether the device is as
@@ -26,6 +28,40 @@ pub(crate) fn open_once<R: Clock + Print + Wait>(
     mut disk: SimDisk,
 ) -> Result<Option<SimDisk>, Fault> {
     let before = content_of(alloc, &mut disk)?;
+    let Some((fault, mut disk)) = open_under_invariant(rt, alloc, disk)? else {
+        return Ok(None);
+    };
+    say_refused(rt, alloc, fault, &mut disk, &before)?;
+    Ok(Some(disk))
+}
+
+// Prints why the device was not opened, and whether it is as it was.
+fn say_refused<R: Print>(
+    rt: &R,
+    alloc: Global,
+    fault: Fault,
+    disk: &mut SimDisk,
+    before: &[u8],
+) -> Result<(), Fault> {
+    say_fault(rt, fault);
+    let after = content_of(alloc, disk)?;
+    say_line(
+        rt,
+        if before == after.as_slice() {
+            "the device is as it was"
+        } else {
+            "the device was changed"
+        },
+    );
+    Ok(())
+}
+
+// Makes the test of the invariant, and opens the device with it.
+fn open_under_invariant<R: Clock + Print + Wait>(
+    rt: &R,
+    alloc: Global,
+    disk: SimDisk,
+) -> Result<Option<(Fault, SimDisk)>, Fault> {
     let test = Box::new(
         alloc,
         |values: &[i64]| -> bool
@@ -33,21 +69,23 @@ pub(crate) fn open_once<R: Clock + Print + Wait>(
             ensures { result ≡ is_not_negative values.now }
         { nonneg(values) },
     )?;
+    open_with(rt, alloc, disk, test)
+}
+
+// Makes the invariant of this test and its table, and opens the device with them.
+fn open_with<R: Clock + Print + Wait>(
+    rt: &R,
+    alloc: Global,
+    disk: SimDisk,
+    test: Test,
+) -> Result<Option<(Fault, SimDisk)>, Fault>
+    requires callable { MayCall (Test.pre test) 1 }
+    requires stated { Gives (Test.post test) 1 is_not_negative }
+{
     let invariant = Invariant::new(names()[0], vec![in alloc; 0]?, test)?;
     let table = Table::of(alloc, vec![in alloc; invariant]?, VARS)?;
-    let _ = println!(rt; "closures");
-    let Some((fault, mut disk)) = open(rt, alloc, disk, table, stored_steps())? else {
-        return Ok(None);
-    };
-    let _ = println!(rt; "{fault}");
-    let after = content_of(alloc, &mut disk)?;
-    let word = if before == after {
-        "is as it was"
-    } else {
-        "was changed"
-    };
-    let _ = println!(rt; "the device {word}");
-    Ok(Some(disk))
+    say_line(rt, "closures");
+    open(rt, alloc, disk, table, stored_steps())
 }
 
 // Opens a device, and settles transactions there. Answers why it was not opened, with the device.
@@ -90,6 +128,6 @@ fn with_front<
 {
     let front = opened.named::<N>();
     let mut looker = front.pass(rt)?;
-    let _ = println!(rt; "opened {}", front.look(&mut looker));
+    say_number(rt, "opened", front.look(&mut looker));
     settle_all(rt, alloc, &front, &mut looker)
 }

@@ -1,7 +1,9 @@
 //! Calls that ask for no memory.
-ghost use Rattle.std.specs.Prelude.{◌≡◌, length};
+ghost use Rattle.std.specs.Prelude.{◌≡◌, ◌∷◌, [], length};
 ghost use Rattle.tmem_builtins.specs.Invariants.{is_not_negative};
+ghost use Rattle.tmem_invariants.specs.Answers.{HasMeaning, MayCall};
 
+use crate::printing::say_line;
 use crate::store::{SLOTS, VARS, device};
 use std::alloc::Global;
 use tmem_builtins::nonneg;
@@ -12,7 +14,7 @@ use tmem_gate::{close_gate, is_open, reads_open};
 use tmem_invariants::Invariants;
 use tmem_record::encode_batch;
 use tmem_state::Batch;
-use tmem_tables::{Invariant, Table};
+use tmem_tables::{Invariant, Table, Test};
 use tmem_world::format;
 
 /// Makes each of them, with a line before the first and one behind each. What they are given is made before.
@@ -41,12 +43,26 @@ fn call_over<R: Print>(
             ensures { result ≡ is_not_negative values.now }
         { nonneg(values) },
     )?;
-    say(rt, "device, batch, bytes, footprint and closure");
+    say_line(rt, "device, batch, bytes, footprint and closure");
     call_on_device(rt, disk, batch, bytes)?;
+    call_on_test(rt, alloc, footprint, test)
+}
+
+// The calls that are given the footprint of an invariant, and its test.
+fn call_on_test<R: Print>(
+    rt: &R,
+    alloc: Global,
+    footprint: Vec<u16>,
+    test: Test,
+) -> Result<(), Fault>
+    requires footprint { footprint.items ≡ 0 ∷ [] }
+    requires callable { MayCall (Test.pre test) 1 }
+    requires stated { HasMeaning (Test.post test) 1 }
+{
     let invariant = Invariant::new(made_name(rt)?, footprint, test)?;
     say_name(rt, "invariant", &invariant.name);
     let table = Table::of(alloc, vec![in alloc; invariant]?, VARS)?;
-    say(rt, "table");
+    say_line(rt, "table");
     call_tests(rt, &table);
     Ok(())
 }
@@ -61,7 +77,7 @@ fn call_on_device<R: Print>(
     requires { length bytes.old ≡ 4096 }
 {
     format(disk, VARS, SLOTS)?;
-    say(rt, "formatted");
+    say_line(rt, "formatted");
     call_gates(rt, disk);
     fill(rt, batch, bytes);
     Ok(())
@@ -71,10 +87,6 @@ fn made_name<R: Print>(rt: &R) -> Result<Name, Fault> {
     let name = Name::new("nonneg")?;
     say_name(rt, "name", &name);
     Ok(name)
-}
-
-fn say<R: Print>(rt: &R, what: &str) {
-    let _ = println!(rt; "{what}");
 }
 
 fn say_name<R: Print>(rt: &R, what: &str, name: &Name) {

@@ -1,5 +1,5 @@
 //! What is asked for, from its JSON form.
-ghost use Rattle.std.specs.Prelude.{ℕ, List, codes, IfOk, IfErr};
+ghost use Rattle.std.specs.Prelude.{◌≢◌, ℕ, List, codes, IfOk, IfErr};
 ghost use Rattle.serde_json.specs.Data.{Data};
 ghost use Rattle.serde_json.specs.View.{view};
 ghost use Rattle.tmem_forms.specs.Errors.{Refuses};
@@ -35,6 +35,26 @@ pub(crate) fn ask_of(
         "get" => Ok(RequestBody::Get(list_of(alloc, body)?)),
         "settle" => Ok(RequestBody::Settle(proposal_of(alloc, body)?)),
         "changed" => Ok(RequestBody::Changed(list_of(alloc, body)?)),
+        _ => other_ask_of(alloc, whole, key, body),
+    }
+}
+
+// The same at a key that is none of these.
+fn other_ask_of(
+    alloc: Global,
+    whole: &Value,
+    key: &str,
+    body: &Value,
+) -> Result<RequestBody, FormError>
+    requires no_do { key.now ≢ codes "do" }
+    requires no_try { key.now ≢ codes "try" }
+    requires no_get { key.now ≢ codes "get" }
+    requires no_settle { key.now ≢ codes "settle" }
+    requires no_changed { key.now ≢ codes "changed" }
+    ensures ok { IfOk result (λ ask. AsksBy ask key.now (view body.now) (view whole.now)) }
+    ensures refused { IfErr result (λ e. Refuses e ((ask : RequestBody) → ¬ AsksBy ask key.now (view body.now) (view whole.now))) }
+{
+    match key {
         "cancel" => Ok(RequestBody::Cancel(integer_of(body)?)),
         "keep" => {
             let (word, tx) = kept_of(alloc, body)?;

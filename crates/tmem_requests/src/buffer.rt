@@ -1,6 +1,8 @@
 //! JSON read over memory that is kept from line to line.
-ghost use Rattle.std.specs.Prelude.{◌≡◌, ◌==◌, ◌<◌, length, slice_index, IfSome, IfOk, IfErr, OnSome, IsUtf8, IsTrue, Some, None};
+ghost use Rattle.std.specs.Prelude.{◌≡◌, ◌==◌, ◌<◌, ◌∷◌, ℕ, List, length, slice_index, IfSome, IfOk, IfErr, OnSome, IsUtf8, IsTrue, Some, None};
 ghost use Rattle.fast_float.specs.Text.{minus};
+ghost use Rattle.json.specs.Reads.{token_of};
+ghost use Rattle.json.specs.Token as grammar;
 ghost use Rattle.serde_json.specs.Errors.{IsMemory};
 ghost use Rattle.serde_json.specs.Read.{number_of, read};
 ghost use Rattle.serde_json.specs.View.{items_view, members_view, number_view, view};
@@ -60,17 +62,26 @@ fn value_in(alloc: Global, reader: &mut Reader<'_>, depth: usize) -> Option<Valu
     ensures shorter { OnSome result (length reader.new < length reader.old) }
 {
     match reader.next()? {
-        Token::String(text) => Some(Value::String(String::from_str(alloc, text).ok()?)),
-        Token::Number(text) => Some(Value::Number(integer_of(text)?)),
-        Token::Bool(b) => Some(Value::Bool(b)),
-        Token::Null => Some(Value::Null),
         Token::BeginArray => Some(Value::Array(items_in(alloc, reader, depth.checked_sub(1)?)?)),
         Token::BeginObject => Some(Value::Object(members_in(
             alloc,
             reader,
             depth.checked_sub(1)?,
         )?)),
-        Token::EndArray | Token::EndObject | Token::Key(_) | Token::Bad => None,
+        token => value_alone(alloc, token),
+    }
+}
+
+// The value that a token is by itself.
+fn value_alone(alloc: Global, token: Token<'_>) -> Option<Value>
+    ensures { (depth : ℕ) (old new : List grammar.Token) → old ≡ token_of token.entry ∷ new → IfSome result (λ value. SpellsValue depth old (view value) new) }
+{
+    match token {
+        Token::String(text) => Some(Value::String(String::from_str(alloc, text).ok()?)),
+        Token::Number(text) => Some(Value::Number(integer_of(text)?)),
+        Token::Bool(b) => Some(Value::Bool(b)),
+        Token::Null => Some(Value::Null),
+        _ => None,
     }
 }
 

@@ -1,4 +1,4 @@
-use Rattle.std.proofs.Common.{◌≡◌, ◌<◌, ℕ, List, [], ◌∷◌, ◌++◌, length, Some, None, string_bytes, string_cmp, sym, ap, ◌∙◌, subst, arith, rules}
+use Rattle.std.proofs.Common.{◌≡◌, ◌<◌, ℕ, List, [], ◌∷◌, ◌++◌, length, Some, None, string_bytes, string_cmp, ap, ◌∙◌, subst, arith, rules}
 use Rattle.std.specs.BTreeMap.{insert_entry}
 use Rattle.json.specs.Json.{after_end_array, read_key}
 use Rattle.json.specs.Reads.{token_of}
@@ -8,7 +8,7 @@ use Rattle.serde_json.specs.Data.{put}
 use Rattle.serde_json.specs.View.{items_view, members_view, view}
 use Rattle.serde_json.proofs.Views.{members_view-insert_entry}
 use Rattle.tmem_requests.specs.Tokens.{SpellsItems, SpellsMembers, SpellsValue}
-use Rattle.tmem_requests.proofs.Spelled.{array_spelled, boolean_spelled, items_all, items_go_on, members_all, members_go_on, null_spelled, number_spelled, object_spelled, string_spelled}
+use Rattle.tmem_requests.proofs.Spelled.{array_spelled, items_all, items_go_on, members_all, members_go_on, object_spelled}
 use Rattle.tmem_requests.proofs.buffer.+value.Goals as goal
 
 pub items_in-items-preserved : goal.items_in-items-preserved
@@ -45,36 +45,15 @@ members_in-members-preserved t c =
 pub members_in-returns-clause-value : goal.members_in-returns-clause-value
 members_in-returns-clause-value t c = members_all c.args.depth c.args.reader.now c.members.members.entries c.members.reader c.next_key.new.self c.members.invariant (grind arith)
 
-pub value_in-returns-in_ok-ok-in-String-clause-value :
-    goal.value_in-returns-in_ok-ok-in-String-clause-value
-value_in-returns-in_ok-ok-in-String-clause-value t c =
-    let s = c.in_ok-ok-in-String.field-0 in
-    let first : c.args.reader.now ≡ token_of c.in_ok-text.field-0 ∷ c.next.new.self = grind arith in
-    let copied : string_bytes s ≡ c.in-String.text.now = search rules in
-    string_spelled c.args.depth c.args.reader.now c.next.new.self s
-    (first ∙ ap (λ k. token_of k ∷ c.next.new.self) c.in-String.is ∙ ap (λ (bytes : List ℕ). Token.string bytes ∷ c.next.new.self) (sym copied))
-
-pub value_in-returns-in_ok-integer_of-in-Number-clause-value :
-    goal.value_in-returns-in_ok-integer_of-in-Number-clause-value
-value_in-returns-in_ok-integer_of-in-Number-clause-value t c =
-    let first : c.args.reader.now ≡ token_of c.in_ok-text.field-0 ∷ c.next.new.self = grind arith in
-    number_spelled c.args.depth c.args.reader.now c.next.new.self c.in_ok-integer_of-in-Number.field-0 c.in-Number.text.now (first ∙ ap (λ k. token_of k ∷ c.next.new.self) c.in-Number.is)
-    c.in_ok-integer_of-in-Number.ensures
-
-pub value_in-returns-in-Bool-clause-value : goal.value_in-returns-in-Bool-clause-value
-value_in-returns-in-Bool-clause-value t c =
-    let first : c.args.reader.now ≡ token_of c.in_ok-text.field-0 ∷ c.next.new.self = grind arith in
-    boolean_spelled c.args.depth c.args.reader.now c.next.new.self c.in-Bool.b (first ∙ ap (λ k. token_of k ∷ c.next.new.self) c.in-Bool.is)
-
-pub value_in-returns-in-Null-clause-value : goal.value_in-returns-in-Null-clause-value
-value_in-returns-in-Null-clause-value t c =
-    let first : c.args.reader.now ≡ token_of c.in_ok-text.field-0 ∷ c.next.new.self = grind arith in
-    null_spelled c.args.depth c.args.reader.now c.next.new.self (first ∙ ap (λ k. token_of k ∷ c.next.new.self) c.in-Null.is)
+pub value_in-returns-in_default-clause-value : goal.value_in-returns-in_default-clause-value
+value_in-returns-in_default-clause-value t c =
+    let first : c.args.reader.now ≡ token_of c.in_ok-token.token ∷ c.next.new.self = grind arith in
+    c.value_alone.ensures c.args.depth c.args.reader.now c.next.new.self first
 
 pub value_in-returns-in_ok-items_in-in-BeginArray-clause-value :
     goal.value_in-returns-in_ok-items_in-in-BeginArray-clause-value
 value_in-returns-in_ok-items_in-in-BeginArray-clause-value t c =
-    let first : c.args.reader.now ≡ token_of c.in_ok-text.field-0 ∷ c.next.new.self = grind arith in
+    let first : c.args.reader.now ≡ token_of c.in_ok-token.token ∷ c.next.new.self = grind arith in
     let below = c.in_ok-checked_sub-in-BeginArray.ensures in
     let v = c.in_ok-items_in-in-BeginArray.field-0 in
     array_spelled c.args.depth c.args.reader.now c.next.new.self c.items_in.new.reader v (first ∙ ap (λ k. token_of k ∷ c.next.new.self) c.in-BeginArray.is) below.0
@@ -83,7 +62,7 @@ value_in-returns-in_ok-items_in-in-BeginArray-clause-value t c =
 pub value_in-returns-in_ok-members_in-in-BeginObject-clause-value :
     goal.value_in-returns-in_ok-members_in-in-BeginObject-clause-value
 value_in-returns-in_ok-members_in-in-BeginObject-clause-value t c =
-    let first : c.args.reader.now ≡ token_of c.in_ok-text.field-0 ∷ c.next.new.self = grind arith in
+    let first : c.args.reader.now ≡ token_of c.in_ok-token.token ∷ c.next.new.self = grind arith in
     let below = c.in_ok-checked_sub-in-BeginObject.ensures in
     let m = c.in_ok-members_in-in-BeginObject.field-0 in
     object_spelled c.args.depth c.args.reader.now c.next.new.self c.members_in.new.reader m (first ∙ ap (λ k. token_of k ∷ c.next.new.self) c.in-BeginObject.is) below.0

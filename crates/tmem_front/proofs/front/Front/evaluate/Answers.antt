@@ -1,6 +1,7 @@
 use Rattle.std.proofs.Common.{◌<◌, ℕ, length, ap, subst, ◌∙◌}
-use Rattle.tmem_tentative.specs.Cursors.{outcome_of, attempt_of, probe_of}
+use Rattle.tmem_tentative.specs.Cursors.{outcome_of, attempt_of, probe_of, given, answers}
 use Rattle.tmem_tentative.specs.Fits.{IsForVariables, IsWithinVariables, IsNamed, IsFilled}
+use Rattle.tmem_tentative.specs.Right.{IsOutcome}
 use Rattle.tmem_tree.proofs.Laws.{footprint_in-AreMeant}
 use Rattle.tmem_front.proofs.front.Front.evaluate.Goals as goal
 
@@ -37,3 +38,20 @@ pub returns-in-Ended-clause-names : goal.returns-in-Ended-clause-names
 returns-in-Ended-clause-names g c =
     let names = g.N.ProgramNaming.program.names in
     subst (λ p. IsNamed names (outcome_of c.advance.new.self p)) c.in-Ended.is (c.in_ok-var.ensures.named names c.requires.names)
+
+pub returns-in-Ended-clause-right : goal.returns-in-Ended-clause-right
+returns-in-Ended-clause-right g c = λ m stated.
+    let tests = g.N.ProgramNaming.program.tests in
+    let self = c.advance.new.self in
+    (subst (λ p. IsOutcome m tests c.args.plan.now.tree (given self) (length (answers self)) (outcome_of self p)) c.in-Ended.is (c.in_ok-var.ensures.right m tests stated c.requires.shapes (c.loop.invariant.at m stated))).1
+
+pub loop-preserved-in-Need : goal.loop-preserved-in-Need
+loop-preserved-in-Need g c =
+    let tests = g.N.ProgramNaming.program.tests in
+    record {
+      stands = λ m stated. c.give.ensures.stands m c.args.plan.now (c.advance.ensures.stands m stated);
+      at = λ m stated. c.give.ensures.at m tests c.args.plan.now.tree (c.advance.ensures.at m tests stated c.requires.shapes (c.loop.invariant.at m stated));
+    }
+
+pub advance-requires-clause-stands : goal.advance-requires-clause-stands
+advance-requires-clause-stands g c = c.loop.invariant.stands

@@ -32,3 +32,12 @@ loop-preserved g c =
       stands = λ m stated. c.answer.ensures.stands m c.args.plan.now (c.advance.ensures.stands m stated);
       filled = some_filled c.failed_values-failed.result c.probe-in-Probe.result.now.values c.probe-in-Probe.result.now.name c.args.name.now footprint c.failed_values-failed.ensures.values (rw c.probe-in-Probe.ensures long);
     }
+
+pub advance-requires-clause-stands : goal.advance-requires-clause-stands
+advance-requires-clause-stands g c = c.loop.invariant.stands
+
+pub loop-preserved-in-Need : goal.loop-preserved-in-Need
+loop-preserved-in-Need g c = record {
+  stands = λ m stated. c.give.ensures.stands m c.args.plan.now (c.advance.ensures.stands m stated);
+  filled = c.loop.invariant.filled;
+}

@@ -24,3 +24,9 @@ returns-clause-end g c =
     let known : c.meet-count.new.seat.known ≡ committed = ap (λ (p : PassRoleView). p.known) c.meet-count.ensures.pass in
     subst (λ log. IfOk c.told_where_false.result (λ found. IfSome found (λ values. AreEndValues (state_after_history g.N.StoreNaming.opening log).values writes values.items))) (sym known)
     (ends_told (λ values. values.items) tests shape.name _ writes shape.footprint c.at_end-values.result c.told_where_false.result c.told_where_false.ensures.why c.told_where_false.ensures.same meant ends)
+
+pub told_where_false-requires-clause-meant : goal.told_where_false-requires-clause-meant
+told_where_false-requires-clause-meant g c =
+    let tests = g.N.ProgramNaming.program.tests in
+    let shape = c.in-Some.shape.now in
+    meant_among tests c.deref.result.now shape (rw c.deref.ensures.value c.args.self.now.meant) c.in-Some.ensures.among

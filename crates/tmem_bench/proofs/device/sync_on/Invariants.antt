@@ -1,6 +1,0 @@
-use Rattle.std.proofs.Common.{◌≡◌, ◌≤◌}
-use Rattle.tmem_bench.specs.declared.figures.Work.TheVariants.{SyncTwice}
-use Rattle.tmem_bench.proofs.device.sync_on.Given as goal
-
-abbrev pub invariant-loop : goal.invariant-loop
-invariant-loop g l = (32 ≤ (g.D.Disk.view l.disk).capacity) × (l.had.work ≡ SyncTwice)
