@@ -1,6 +1,6 @@
 -- What a failing test saw, and whose footprint it is.
 use Rattle.std.proofs.Common.{◌≡◌, ℕ, ℤ, ◌<◌, true, List, length, map, Option, Some, None, Result, Ok, Err, ap, sym, ◌∙◌, subst}
-use Rattle.std.specs.Prelude.{IfSome, IfOk, All}
+use Rattle.std.specs.Prelude.{IfSome, IfOk}
 use Rattle.std.specs.List.{Contains}
 use Rattle.std.specs.Map.{keys_of}
 use Rattle.tmem_front.specs.Refusing.{IsFalseOn, AreEndValues, end_value}

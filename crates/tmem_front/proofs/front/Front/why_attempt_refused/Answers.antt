@@ -1,6 +1,5 @@
-use Rattle.std.proofs.Common.{◌≡◌, ℕ, ℤ, List, map, Some, ap, sym, ◌∙◌, subst}
+use Rattle.std.proofs.Common.{◌≡◌, ℤ, map, Some, ap, sym, subst}
 use Rattle.std.specs.Prelude.{IfOk, IfSome}
-use Rattle.tmem_tree.specs.Shapes.{names_of, AreMeant}
 use Rattle.tmem_seats.specs.Histories.{state_after_history}
 use Rattle.tmem_spine.specs.Views.{PassRoleView}
 use Rattle.tmem_front.specs.Refusing.{AreEndValues, end_value}
