@@ -32,16 +32,19 @@ pub fn device_in_file<R: AllocGlobal + Files<File = File>>(
 // A new file that is formatted.
 fn new_file<R: AllocGlobal + Files<File = File>>(rt: &R, path: &str) -> Result<FileDisk, Fault> {
     let size = Layout::new(ACCOUNTS, SLOTS)?.end();
-    named(rt, NewFile::create(rt, path, size)?)
+    name_once_formatted(rt, NewFile::create(rt, path, size)?)
 }
 
-fn formatted(new: &mut NewFile) -> Result<(), Fault> {
+fn format_new(new: &mut NewFile) -> Result<(), Fault> {
     format(&mut new.disk, ACCOUNTS, SLOTS)
 }
 
 // A file gets its path once it is formatted.
-fn named<R: AllocGlobal + Files<File = File>>(rt: &R, mut new: NewFile) -> Result<FileDisk, Fault> {
-    match formatted(&mut new) {
+fn name_once_formatted<R: AllocGlobal + Files<File = File>>(
+    rt: &R,
+    mut new: NewFile,
+) -> Result<FileDisk, Fault> {
+    match format_new(&mut new) {
         Ok(()) => new.give_name(rt),
         Err(fault) => {
             new.discard(rt);

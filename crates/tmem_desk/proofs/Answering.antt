@@ -1,8 +1,6 @@
 -- What leads from one view of a desk to the next.
-use Rattle.std.proofs.Common.{◌≡◌, inr, ℕ, ℤ, Bool, true, false, nat_lt, List, [], ◌∷◌, ◌++◌, length, Option, Some, None, Result, Ok, IfOk, refl, ap, sym, ◌∙◌, subst}
+use Rattle.std.proofs.Common.{◌≡◌, inr, ℕ, ℤ, Bool, true, false, nat_lt, List, [], ◌∷◌, ◌++◌, length, Option, Some, None, refl, ap, sym, ◌∙◌, subst}
 use Rattle.std.specs.Prelude.{if◌then◌else◌}
-use Rattle.std.proofs.lemmas.Result.{IfOk-at_ok}
-use Rattle.tmem_fault.specs.declared.fault.Fault.{Fault}
 use Rattle.tmem_fault.specs.declared.fault.Fault.TheVariants as fault
 use Rattle.tmem_effect.specs.Prefix.{IsPrefix}
 use Rattle.tmem_spine.specs.declared.view.Entry.{Entry}
@@ -26,11 +24,6 @@ is_answered s id asks v w pass given answers is =
       answers = subst (λ (p : PassRoleView). AnswersAsk s asks v.pass given p) at answers;
       is = subst (λ (p : PassRoleView). w ≡ tells (by v p) (answer_told id given ∷ [])) at is;
     }
-
--- what is told where it was answered
-pub given_at_once : (s : Store) (id : ℤ) (asks : RequestBody) (v w : DeskView) (pass : PassRoleView) (given : Result Answer Fault) → IfOk given (λ a. AnswersAsk s asks v.pass a pass)
-    → (a : Answer) × (given ≡ Ok a) × (w ≡ tells (by v pass) (answer_told id a ∷ [])) → IsAnsweredAtOnce s id asks v w
-given_at_once s id asks v w pass given answers told = is_answered s id asks v w pass told.0 (IfOk-at_ok (λ a. AnswersAsk s asks v.pass a pass) told.1 answers) told.2
 
 tried_pass : (id : ℤ) (asks : RequestBody) (outcome : Option Answer) (v : DeskView) → (tried id asks outcome v).pass ≡ v.pass
 tried_pass id asks (Some given) v = refl

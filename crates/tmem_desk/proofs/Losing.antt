@@ -4,7 +4,6 @@ use Rattle.std.specs.Prelude.{All, MatchBool, count_by, flat_map}
 use Rattle.std.specs.Result.{IsErrAnd}
 use Rattle.std.proofs.lemmas.Bool.{false≢true}
 use Rattle.std.proofs.lemmas.Bool.Decides.{nat_tests}
-use Rattle.std.proofs.lemmas.Result.{IfErr-at_err}
 use Rattle.std.proofs.lemmas.List.{append-nil, flat_map_more, map_push}
 use Rattle.std.proofs.lemmas.List.Concat.{flat_map-append}
 use Rattle.std.proofs.lemmas.List.Elements.{All-nil, All-append, All-push}
@@ -15,7 +14,6 @@ use Rattle.tmem_lines.specs.Views.{LinesView}
 use Rattle.tmem_front.specs.Settling.{SeesMore}
 use Rattle.tmem_spine.specs.History.{count}
 use Rattle.tmem_spine.specs.Views.{PassRoleView}
-use Rattle.tmem_requests.specs.declared.answer.Answer.{Answer}
 use Rattle.tmem_requests.specs.declared.answer.Answer.TheVariants as answer
 use Rattle.tmem_requests.specs.declared.request.RequestBody.{RequestBody}
 use Rattle.tmem_desk.specs.Asking.{Store}
@@ -141,20 +139,6 @@ answers_only id id' f v mid w (Err g) same (inr kept) (inr told) =
       is = subst (λ (i : ℤ). w ≡ tells (by v w.pass) (answer_told i (answer.Fault f) ∷ [])) same (subst (λ (p : PassRoleView). w ≡ tells (by v p) (answer_told id' (answer.Fault f) ∷ [])) pass is);
       sees = subst (SeesMore v.pass) pass kept.sees;
     })
-
--- what is handed on where it was not answered
-pub learns_given : (given : Result Answer Fault) (r : Result Unit Fault) (v w : DeskView) (pass : PassRoleView) → IfErr given (λ _. SeesMore v.pass pass)
-    → IfErr r (λ f. OrMemory f ((given ≡ Err f) × (w ≡ by v pass))) → IfErr r (λ f. OrMemory f (LearnsOnly v w))
-learns_given given (Ok x) v w pass sees so = tt
-learns_given given (Err f) v w pass sees so =
-    or_memory f
-    (λ (kept : (given ≡ Err f) × (w ≡ by v pass)).
-    let at : pass ≡ w.pass = sym (ap (λ (d : DeskView). d.pass) kept.1) in
-    record {
-      is = subst (λ (p : PassRoleView). w ≡ by v p) at kept.1;
-      sees = subst (SeesMore v.pass) at (IfErr-at_err (λ _. SeesMore v.pass pass) kept.0 sees);
-    })
-    so
 
 -- the line is answered that it is
 pub answers_line : (s : Store) (text : List ℕ) (id id' : ℤ) (asks : RequestBody) (v w : DeskView) → id' ≡ id → IsAskedOf s id asks text → AnswersOnly id' (one_line_more v) w → AnswersLine s text v w

@@ -1,5 +1,5 @@
 // The desk: what each line is answered.
-ghost use Rattle.std.specs.Prelude.{◌≡◌, [], ◌∷◌, length, None, Some, Ok, Err, position, OnOk, IsErr, IfErr};
+ghost use Rattle.std.specs.Prelude.{◌≡◌, [], ◌∷◌, length, None, Some, position, OnOk, IsErr, IfErr};
 ghost use Rattle.std.specs.Ordering.{int_eq};
 ghost use Rattle.tmem_requests.specs.Fits.{FitsStore};
 ghost use Rattle.tmem_requests.specs.declared.request.RequestBody.TheVariants.{Do};
@@ -78,17 +78,6 @@ impl<N: ServedNaming> Desk<N> {
         Ok(())
     }
 
-    // Tells what a request is answered, where it was: else hands on why it was not.
-    fn tell_given(&mut self, id: i64, given: Result<Answer, Fault>) -> Result<(), Fault>
-        ensures ok { OnOk result ((answer : Answer) × (given ≡ Ok answer) × (desk_view self.new ≡ tells (desk_view self.old) (answer_told id answer ∷ []))) }
-        ensures err { IfErr result (λ f. OrMemory f ((given ≡ Err f) × (desk_view self.new ≡ desk_view self.old))) }
-    {
-        match given {
-            Ok(answer) => self.tell(id, answer),
-            Err(fault) => Err(fault),
-        }
-    }
-
     // Tells a request why the store cannot go on.
     fn tell_fault(&mut self, id: i64, fault: &Fault) -> Result<(), Fault>
         ensures never { IsErr result }
@@ -151,11 +140,7 @@ impl<N: ServedNaming> Desk<N> {
     {
         self.lines = self.lines.wrapping_add(1);
         match service.read(&mut self.buffer, text) {
-            Ok(request) => {
-                let id = request.id;
-                drop(request);
-                self.tell(id, Answer::Fault(Fault::Closed))
-            }
+            Ok(request) => self.tell(request.id, Answer::Fault(Fault::Closed)),
             Err(RequestError::NoRequest(refusal)) => self.refuse(refusal),
             Err(RequestError::Memory(_)) => Err(Fault::Memory),
         }
@@ -210,28 +195,28 @@ impl<N: ServedNaming> Desk<N> {
             ),
             RequestBody::Cancel(other) => self.cancel(id, other),
             RequestBody::Try(tx) => {
-                let given = service.try_once(&mut self.pass, tx);
-                self.tell_given(id, given)
+                let answer = service.try_once(&mut self.pass, tx)?;
+                self.tell(id, answer)
             }
             RequestBody::Get(vars) => {
                 let (count, values) = service.see(&mut self.pass, &vars)?;
                 self.tell(id, Answer::Values { count, values })
             }
             RequestBody::Settle(proposal) => {
-                let given = service.propose(&mut self.pass, &proposal);
-                self.tell_given(id, given)
+                let answer = service.propose(&mut self.pass, &proposal)?;
+                self.tell(id, answer)
             }
             RequestBody::Look => {
                 let number = service.front.look(&mut self.pass);
                 self.tell(id, Answer::Durable(number))
             }
             RequestBody::State => {
-                let given = service.see_all(&mut self.pass);
-                self.tell_given(id, given)
+                let answer = service.see_all(&mut self.pass)?;
+                self.tell(id, answer)
             }
             RequestBody::Checkpoint => {
-                let given = service.write_image();
-                self.tell_given(id, given)
+                let answer = service.write_image()?;
+                self.tell(id, answer)
             }
             RequestBody::Keep(word, tx) => self.keep(service, id, word, tx),
             RequestBody::Run(word, numbers) => self.run_kept(service, id, &word, &numbers),
@@ -265,16 +250,9 @@ impl<N: ServedNaming> Desk<N> {
         ensures ok { OnOk result (MayWait (store N.name.start N.opening N.program N.arities N.always) id (asked held) (desk_view self.old) (desk_view self.new)) }
         ensures err { IfErr result (λ f. OrMemory f (LearnsOnly (desk_view self.old) (desk_view self.new))) }
     {
-        match service.attempt(&mut self.pass, &held) {
-            Ok(Some(answer)) => {
-                drop(held);
-                self.tell(id, answer)
-            }
-            Ok(None) => self.wait(id, held),
-            Err(fault) => {
-                drop(held);
-                Err(fault)
-            }
+        match service.attempt(&mut self.pass, &held)? {
+            Some(answer) => self.tell(id, answer),
+            None => self.wait(id, held),
         }
     }
 

@@ -74,10 +74,7 @@ impl<'a, R, D: Disk + Drop, N: ServedNaming, T: Invariants + Drop, S: StoredStep
         let request = Request::read(self.alloc, buffer, text)?;
         match request.fits(self.alloc, self.vars, self.names, self.always) {
             Ok(()) => Ok(request),
-            Err(refusal) => {
-                drop(request);
-                Err(RequestError::NoRequest(refusal))
-            }
+            Err(refusal) => Err(RequestError::NoRequest(refusal)),
         }
     }
 }

@@ -59,11 +59,7 @@ impl<N: ServedNaming> Desk<N> {
             return Ok(());
         };
         match service.attempt(&mut self.pass, &one.held) {
-            Ok(Some(answer)) => {
-                let id = one.id;
-                drop(one);
-                self.tell(id, answer)
-            }
+            Ok(Some(answer)) => self.tell(one.id, answer),
             Ok(None) => {
                 self.waiting.push_back(one)?;
                 Ok(())

@@ -1,4 +1,4 @@
-//! The desk, by pieces of input and what is printed for each; and what commands print.
+//! The desk, by pieces of input and what is printed for each; and what other commands print with.
 //!
 //! A crate of tests alone.
 #![tactic(auto)]

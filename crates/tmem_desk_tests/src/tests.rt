@@ -1,4 +1,4 @@
-//! What a served store prints for pieces of input, and what commands print.
+//! What a served store prints for pieces of input, how output is flushed, and the table of the jobs.
 mod answers;
 mod jobs;
 mod limits;

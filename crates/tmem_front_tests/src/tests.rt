@@ -1,5 +1,4 @@
 //! Scenes that threads play on a front.
-mod commits;
 mod endings;
 mod failures;
 mod flushers;

@@ -25,13 +25,13 @@ pub fn print_line<W: Write, T: Display + Drop>(out: &mut W, text: T) -> Result<(
     writeln!(out, "{text}").map_err(|_| ProgramFailure::Output)
 }
 
-/// Shows that an output was flushed: only `flush_output` makes one, so who has to hand one back has called it.
+/// That an output was flushed, and did not fail. Only `flush_output` makes one.
 #[derive(Drop)]
 pub struct Flushed {
     is_flushed: (),
 }
 
-/// Flushes what was printed.
+/// Flushes what was printed. `Output` where that fails.
 pub fn flush_output<W: Write>(out: &mut W) -> Result<Flushed, ProgramFailure>
     ensures kept { Keeps (W.contents out.old) (W.contents out.new) }
     ensures failed { IfErr result (λ failure. failure ≡ Output) }

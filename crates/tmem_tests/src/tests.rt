@@ -53,18 +53,8 @@ fn opened<T: Invariants + Drop, S: StoredSteps + Drop>(
     table: T,
     steps: S,
 ) -> Result<World<SimDisk, T, S>, Fault> {
-    let disk = formatted(alloc, table.vars(), 4)?;
-    opened_on(alloc, disk, table, steps)
-}
-
-/// A world over a device of four slots.
-fn opened_on<T: Invariants + Drop, S: StoredSteps + Drop>(
-    alloc: Global,
-    disk: SimDisk,
-    table: T,
-    steps: S,
-) -> Result<World<SimDisk, T, S>, Fault> {
     let vars = table.vars();
+    let disk = formatted(alloc, vars, 4)?;
     match World::open(alloc, disk, vars, 4, table, steps) {
         Ok(world) => Ok(world),
         Err((fault, _disk)) => Err(fault),
@@ -77,27 +67,13 @@ fn commit<T: Invariants + Drop, S: StoredSteps + Drop>(
     tx: Tx,
 ) -> Reply {
     world.step(Event::Begin { slot: 0, tx });
-    if ends(world) {
-        world.step(Event::Settle { slot: 0 })
-    } else {
-        Reply::Idle
-    }
-}
-
-/// Evaluates attempt 0 to its end. Answers whether it has ended after as many turns as there may be.
-fn ends<T: Invariants + Drop, S: StoredSteps + Drop>(world: &mut World<SimDisk, T, S>) -> bool {
     for _ in 0..=MAX_TURNS {
         let reply = world.step(Event::Turn { slot: 0 });
         if matches!(reply, Reply::Ended) {
-            return true;
+            return world.step(Event::Settle { slot: 0 });
         }
     }
-    false
-}
-
-/// A reply is this one.
-fn is_reply(rt: &impl Abort, had: &Reply, want: &Reply) {
-    assert!(rt; *had == *want, "{had:?} where {want:?} was wanted");
+    Reply::Idle
 }
 
 /// The same, where this is to be its reply.
@@ -107,7 +83,8 @@ fn commit_to<T: Invariants + Drop, S: StoredSteps + Drop>(
     tx: Tx,
     want: Reply,
 ) {
-    is_reply(rt, &commit(world, tx), &want);
+    let had = commit(world, tx);
+    assert!(rt; had == want, "{had:?} where {want:?} was wanted");
 }
 
 /// Makes a step, whose reply is to be this.
@@ -119,5 +96,6 @@ fn step_to<T: Invariants + Drop, S: StoredSteps + Drop>(
 )
     requires { NamesAttempt event }
 {
-    is_reply(rt, &world.step(event), &want);
+    let had = world.step(event);
+    assert!(rt; had == want, "{had:?} where {want:?} was wanted");
 }

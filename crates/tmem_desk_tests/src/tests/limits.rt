@@ -1,39 +1,10 @@
 //! As many requests wait as may, as many transactions are kept, and more of them commit in one piece than may be undurable.
-use super::store::{Case, is_printed, push_line, serve_case};
+use super::store::{Case, serve_case};
 use std::alloc::Global;
-use std::io::{self, Write};
+use std::io::Write;
 use std::process::Abort;
 use std::sync::Wait;
 use std::test::Fail;
-
-// The lines that are asked and told.
-
-fn ask(piece: &mut Vec<u8>, id: u64, asked: &str) -> io::Result<()> {
-    writeln!(piece, "{{\"id\":{id},{asked}}}")
-}
-
-fn ask_to_keep(piece: &mut Vec<u8>, id: u8, word: &str) -> io::Result<()> {
-    writeln!(piece, "{{\"id\":{id},\"keep\":[\"{word}\",\"skip\"]}}")
-}
-
-fn tell_kept(wanted: &mut Vec<u8>, id: u8, word: &str) -> io::Result<()> {
-    writeln!(wanted, "{{\"id\":{id},\"kept\":\"{word}\"}}")
-}
-
-fn tell_closed(wanted: &mut Vec<u8>, id: u64) -> io::Result<()> {
-    writeln!(wanted, "{{\"id\":{id},\"fault\":3,\"word\":\"closed\"}}")
-}
-
-fn tell_unknown(wanted: &mut Vec<u8>, id: u64) -> io::Result<()> {
-    writeln!(wanted, "{{\"id\":{id},\"fault\":4,\"word\":\"unknown\"}}")
-}
-
-fn tell_committed(wanted: &mut Vec<u8>, id: u64) -> io::Result<()> {
-    writeln!(
-        wanted,
-        "{{\"id\":{id},\"committed\":{id},\"registers\":[]}}"
-    )
-}
 
 #[test]
 fn one_more_waits_than_may(rt: HostRuntime) -> Result<(), Fail> {
@@ -41,27 +12,14 @@ fn one_more_waits_than_may(rt: HostRuntime) -> Result<(), Fail> {
     let mut piece = Vec::new(alloc);
     let mut wanted = Vec::new(alloc);
     for id in 0..1025 {
-        ask(&mut piece, id, r#""changed":[[2,0]]"#)?;
+        writeln!(piece, "{{\"id\":{id},\"changed\":[[2,0]]}}")?;
     }
-    push_line(&mut wanted, r#"{"id":1024,"fault":5,"word":"full"}"#)?;
+    writeln!(wanted, "{{\"id\":1024,\"fault\":5,\"word\":\"full\"}}")?;
     for id in 0..1024 {
-        tell_closed(&mut wanted, id)?;
+        writeln!(wanted, "{{\"id\":{id},\"fault\":3,\"word\":\"closed\"}}")?;
     }
     serve_text(&rt, alloc, piece, wanted)
 }
-
-/// What is asked behind 256 requests that keep, and what is told for it.
-static KEPT: &[(&str, &str)] = &[
-    (
-        r#"{"id":256,"keep":["z","skip"]}"#,
-        r#"{"id":256,"fault":5,"word":"full"}"#,
-    ),
-    (
-        r#"{"id":257,"keep":["pp",{"abort":7}]}"#,
-        r#"{"id":257,"kept":"pp"}"#,
-    ),
-    (r#"{"id":258,"run":"pp"}"#, r#"{"id":258,"aborted":7}"#),
-];
 
 #[test]
 fn one_more_is_kept_than_may(rt: HostRuntime) -> Result<(), Fail> {
@@ -69,21 +27,18 @@ fn one_more_is_kept_than_may(rt: HostRuntime) -> Result<(), Fail> {
     let mut piece = Vec::new(alloc);
     let mut wanted = Vec::new(alloc);
     for id in 0..=u8::MAX {
-        keep(&mut piece, &mut wanted, id)?;
+        let word = [b'a' + id / 16, b'a' + id % 16];
+        let word = std::str::from_utf8(&word).unwrap_or("");
+        writeln!(piece, "{{\"id\":{id},\"keep\":[\"{word}\",\"skip\"]}}")?;
+        writeln!(wanted, "{{\"id\":{id},\"kept\":\"{word}\"}}")?;
     }
-    for (asked, told) in KEPT {
-        push_line(&mut piece, asked)?;
-        push_line(&mut wanted, told)?;
-    }
+    writeln!(piece, "{{\"id\":256,\"keep\":[\"z\",\"skip\"]}}")?;
+    writeln!(wanted, "{{\"id\":256,\"fault\":5,\"word\":\"full\"}}")?;
+    writeln!(piece, "{{\"id\":257,\"keep\":[\"pp\",{{\"abort\":7}}]}}")?;
+    writeln!(wanted, "{{\"id\":257,\"kept\":\"pp\"}}")?;
+    writeln!(piece, "{{\"id\":258,\"run\":\"pp\"}}")?;
+    writeln!(wanted, "{{\"id\":258,\"aborted\":7}}")?;
     serve_text(&rt, alloc, piece, wanted)
-}
-
-// One is kept, by a word of two letters.
-fn keep(piece: &mut Vec<u8>, wanted: &mut Vec<u8>, id: u8) -> io::Result<()> {
-    let word = [b'a' + id / 16, b'a' + id % 16];
-    let word = std::str::from_utf8(&word).unwrap_or("");
-    ask_to_keep(piece, id, word)?;
-    tell_kept(wanted, id, word)
 }
 
 // 256 are committed that are not durable, so that the last one meets no room
@@ -102,8 +57,11 @@ fn commit_all<R: Abort + Wait>(rt: &R, alloc: Global, asked: &str) -> Result<(),
     let mut piece = Vec::new(alloc);
     let mut wanted = Vec::new(alloc);
     for id in 0..257 {
-        ask(&mut piece, id, asked)?;
-        tell_committed(&mut wanted, id)?;
+        writeln!(piece, "{{\"id\":{id},{asked}}}")?;
+        writeln!(
+            wanted,
+            "{{\"id\":{id},\"committed\":{id},\"registers\":[]}}"
+        )?;
     }
     serve_text(rt, alloc, piece, wanted)
 }
@@ -114,29 +72,23 @@ fn commit_all<R: Abort + Wait>(rt: &R, alloc: Global, asked: &str) -> Result<(),
 fn what_is_durable_is_told_where_a_later_flush_fails(rt: HostRuntime) -> Result<(), Fail> {
     let alloc = rt.alloc();
     for fails in 0..6u64 {
-        serve_failing(&rt, alloc, fails, fails / 2 * 64)?;
+        let durable = fails / 2 * 64;
+        let mut piece = Vec::new(alloc);
+        let mut wanted = Vec::new(alloc);
+        for id in 0..330u64 {
+            writeln!(piece, "{{\"id\":{id},\"do\":{{\"write\":[2,0]}}}}")?;
+            if id < durable {
+                writeln!(
+                    wanted,
+                    "{{\"id\":{id},\"committed\":{id},\"registers\":[]}}"
+                )?;
+            } else {
+                writeln!(wanted, "{{\"id\":{id},\"fault\":4,\"word\":\"unknown\"}}")?;
+            }
+        }
+        serve_where(&rt, alloc, Some(fails), piece, wanted)?;
     }
     Ok(())
-}
-
-// Serves them where a sync fails, behind which so many are durable.
-fn serve_failing<R: Abort + Wait>(
-    rt: &R,
-    alloc: Global,
-    fails: u64,
-    durable: u64,
-) -> Result<(), Fail> {
-    let mut piece = Vec::new(alloc);
-    let mut wanted = Vec::new(alloc);
-    for id in 0..330 {
-        ask(&mut piece, id, r#""do":{"write":[2,0]}"#)?;
-        if id < durable {
-            tell_committed(&mut wanted, id)?;
-        } else {
-            tell_unknown(&mut wanted, id)?;
-        }
-    }
-    serve_where(rt, alloc, Some(fails), piece, wanted)
 }
 
 // Serves one piece in a new store.
@@ -164,6 +116,9 @@ fn serve_where<R: Abort + Wait>(
         pieces: &[piece.as_str()],
         prints: &[],
     };
-    is_printed(rt, case.name, serve_case(rt, alloc, &case), &wanted);
+    let printed = serve_case(rt, alloc, &case);
+    let is_wanted = printed.as_slice() == wanted.as_slice();
+    let shown = String::from_utf8(printed);
+    assert!(rt; is_wanted, "{shown:?}");
     Ok(())
 }

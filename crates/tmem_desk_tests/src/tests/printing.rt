@@ -1,4 +1,4 @@
-//! What a command has printed is flushed, or that failed.
+//! An output is flushed, or has failed.
 use std::io::{self, ErrorKind, Write};
 use std::test::Fail;
 use tmem_run::flush_output;

@@ -5,7 +5,7 @@ ghost use Rattle.tmem_front.specs.Held.{front_found, spine_of, front_steps, fron
 ghost use Rattle.tmem_builtins.specs.Invariants.{has_no_negative, is_negative};
 ghost use Rattle.tmem_desk_tests.specs.Examples.{solvent};
 
-use std::alloc::{AllocError, Global};
+use std::alloc::Global;
 use std::io::{self, Read, Write};
 use std::marker::Brand;
 use std::process::Abort;
@@ -83,31 +83,16 @@ pub(super) fn serve_all<R: Abort + Wait>(
 ) -> Result<(), Fail> {
     for case in cases {
         let printed = serve_case(rt, alloc, case);
-        is_printed(rt, case.name, printed, &text_of(alloc, case.prints)?);
+        let mut wanted = Vec::new(alloc);
+        for line in case.prints {
+            wanted.extend_from_slice(line.as_bytes())?;
+            wanted.push(b'\n')?;
+        }
+        let name = case.name;
+        let is_wanted = printed.as_slice() == wanted.as_slice();
+        let shown = String::from_utf8(printed);
+        assert!(rt; is_wanted, "{name}: {shown:?}");
     }
-    Ok(())
-}
-
-/// What was printed for a case of this name is what is wanted.
-pub(super) fn is_printed(rt: &impl Abort, name: &str, printed: Vec<u8>, wanted: &[u8]) {
-    let is_wanted = printed.as_slice() == wanted;
-    let shown = String::from_utf8(printed);
-    assert!(rt; is_wanted, "{name}: {shown:?}");
-}
-
-// Lines, each with its line break.
-fn text_of(alloc: Global, lines: &[&str]) -> Result<Vec<u8>, AllocError> {
-    let mut text = Vec::new(alloc);
-    for line in lines {
-        push_line(&mut text, line)?;
-    }
-    Ok(text)
-}
-
-/// Puts a line and its line break behind a text.
-pub(super) fn push_line(text: &mut Vec<u8>, line: &str) -> Result<(), AllocError> {
-    text.extend_from_slice(line.as_bytes())?;
-    text.push(b'\n')?;
     Ok(())
 }
 
@@ -206,12 +191,7 @@ fn serve_whole<R: Wait, T: Invariants + Drop, S: StoredSteps + Drop, W: Write>(
         pieces: case.pieces,
         at: 0,
     };
-    end_of(serve_store(rt, alloc, disk, served, table, steps, &mut input, out))
-}
-
-// How `serve_store` ended.
-fn end_of(ended: Result<InputEnd, ServeError>) -> ServingEnd {
-    match ended {
+    match serve_store(rt, alloc, disk, served, table, steps, &mut input, out) {
         Ok(InputEnd::Reached) => ServingEnd::InputRead,
         Err(ServeError::Ended(failure)) => end_by(failure),
         Ok(InputEnd::Failed) | Err(ServeError::Unregistered(_)) => ServingEnd::Fault,
@@ -262,14 +242,9 @@ fn serve_named<N: ServedNaming, T: Invariants + Drop, S: StoredSteps + Drop, R: 
     let names = [Name::new("solvent")?];
     let service = Service::new(rt, alloc, &front, VARS, &names, &[]);
     let mut desk = Desk::new(alloc, front.pass(rt)?);
-    Ok(end_of_pieces(serve_pieces(alloc, &service, &mut desk, case, out)))
-}
-
-// How a desk ended.
-fn end_of_pieces(ended: Result<(), DeskFailure>) -> ServingEnd {
-    match ended {
-        Ok(()) => ServingEnd::InputRead,
-        Err(failure) => end_by(failure),
+    match serve_pieces(alloc, &service, &mut desk, case, out) {
+        Ok(()) => Ok(ServingEnd::InputRead),
+        Err(failure) => Ok(end_by(failure)),
     }
 }
 

@@ -120,15 +120,14 @@ pub(super) fn play(rt: &impl Abort, alloc: Global, acts: &[Act]) -> Result<(), F
         }
         if matches!(act, Act::Row) {
             let other = other_in_row(alloc, behind(acts, case), behind(acts, index))?;
-            is_right(rt, name_at(acts, case), index, other);
+            assert!(rt;
+                other.is_none(),
+                "{}, row at act {index}: {other:?}",
+                name_at(acts, case)
+            );
         }
     }
     Ok(())
-}
-
-/// No act of a row is answered otherwise.
-fn is_right(rt: &impl Abort, name: &str, index: usize, other: Option<usize>) {
-    assert!(rt; other.is_none(), "{name}, row at act {index}: {other:?}");
 }
 
 /// Whether there is a case, and a row follows each one before the next, so that all are played.
@@ -164,12 +163,13 @@ fn behind<'b, 'a>(acts: &'b [Act<'a>], mark: usize) -> &'b [Act<'a>] {
         acts.len()
     };
     let rest = &acts[begin..];
-    for (end, act) in rest.iter().enumerate() {
-        if matches!(act, Act::Case(_) | Act::Row) {
-            return &rest[..end.min(rest.len())];
-        }
+    match rest
+        .iter()
+        .position(|act| matches!(act, Act::Case(_) | Act::Row))
+    {
+        Some(end) => &rest[..end],
+        None => rest,
     }
-    rest
 }
 
 /// The index of the first act of a row that is answered otherwise.
@@ -268,58 +268,34 @@ fn holds(journal: &Journal<Device>, count: u64, number: i64) -> bool {
 
 /// Whether a batch is flushed so.
 fn is_flushed(alloc: Global, journal: &mut Journal<Device>, act: &Act) -> bool {
-    match answer_of_flush(act) {
-        Some(answer) => is_same(flush_of(alloc, journal, act), answer),
-        None => false,
-    }
-}
-
-/// What a flush is to be answered.
-fn answer_of_flush<'a>(act: &Act<'a>) -> Option<Result<u64, &'a str>> {
-    match *act {
-        Act::Flushes(_, answer)
-        | Act::FlushesTo(_, _, answer)
-        | Act::FlushesBoth(_, _, _, answer)
-        | Act::FlushesTwo(_, _, _, answer)
-        | Act::FlushesName(_, answer) => Some(answer),
-        _ => None,
-    }
-}
-
-/// What it is answered. `Full` where the act is none.
-fn flush_of(alloc: Global, journal: &mut Journal<Device>, act: &Act) -> Result<u64, Fault> {
-    match *act {
-        Act::Flushes(number, _) => flush_to(alloc, journal, 0, number),
-        Act::FlushesTo(var, number, _) => flush_to(alloc, journal, var, number),
-        Act::FlushesBoth(one, other, number, _) => flush_both(alloc, journal, one, other, number),
-        Act::FlushesTwo(one, other, number, _) => flush_two(alloc, journal, one, other, number),
-        Act::FlushesName(name, _) => flush_name(alloc, journal, name),
-        _ => Err(Fault::Full),
+    match act {
+        Act::Flushes(number, answer) => is_same(flush_to(alloc, journal, 0, *number), *answer),
+        Act::FlushesTo(var, number, answer) => {
+            is_same(flush_to(alloc, journal, *var, *number), *answer)
+        }
+        Act::FlushesBoth(one, other, number, answer) => {
+            is_same(flush_both(alloc, journal, *one, *other, *number), *answer)
+        }
+        Act::FlushesTwo(one, other, number, answer) => {
+            is_same(flush_two(alloc, journal, *one, *other, *number), *answer)
+        }
+        Act::FlushesName(name, answer) => is_same(flush_name(alloc, journal, name), *answer),
+        _ => false,
     }
 }
 
 fn holds_all(journal: &Journal<Device>, numbers: &[(u16, i64)]) -> bool {
     let values = journal.state().values();
-    for (var, number) in numbers {
-        if values.get(usize::from(*var)) != Some(number) {
-            return false;
-        }
-    }
-    true
+    numbers.iter().all(|(var, number)| values.get(usize::from(*var)) == Some(number))
 }
 
 fn holds_names(journal: &Journal<Device>, names: &[&str]) -> bool {
-    are_named(journal.state().names(), names)
-}
-
-fn are_named(had: &[Name], names: &[&str]) -> bool {
-    for (index, letters) in names.iter().enumerate() {
-        match had.get(index) {
-            Some(name) if name.as_str() == *letters => {}
-            _ => return false,
-        }
-    }
+    let had = journal.state().names();
     had.len() == names.len()
+        && had
+            .iter()
+            .zip(names)
+            .all(|(name, letters)| name.as_str() == *letters)
 }
 
 fn after_device(alloc: Global, mut disk: Device, act: &Act) -> Result<(Store, bool), Fault> {
@@ -407,17 +383,11 @@ fn is_so_of_any<D: Disk>(alloc: Global, disk: &mut D, act: &Act) -> Result<bool,
         Act::Size(size) => Ok(disk.size() == *size),
         Act::Reads(at, wanted) => is_read(alloc, disk, *at, wanted),
         Act::ReadFails(at, count) => is_not_read(alloc, disk, *at, *count),
-        _ => Ok(is_so_of_writing(disk, act)),
-    }
-}
-
-fn is_so_of_writing<D: Disk>(disk: &mut D, act: &Act) -> bool {
-    match act {
-        Act::Writes(at, bytes) => write(disk, *at, bytes) == Some(Ok(())),
-        Act::WriteFails(at, bytes) => write(disk, *at, bytes) == Some(Err(DeviceFault::Write)),
-        Act::Syncs => disk.sync() == Ok(()),
-        Act::SyncFails => disk.sync() == Err(DeviceFault::Sync),
-        _ => false,
+        Act::Writes(at, bytes) => Ok(write(disk, *at, bytes) == Some(Ok(()))),
+        Act::WriteFails(at, bytes) => Ok(write(disk, *at, bytes) == Some(Err(DeviceFault::Write))),
+        Act::Syncs => Ok(disk.sync() == Ok(())),
+        Act::SyncFails => Ok(disk.sync() == Err(DeviceFault::Sync)),
+        _ => Ok(false),
     }
 }
 

@@ -8,9 +8,6 @@ use tmem_fault::Fault;
 use tmem_front::Awaited;
 use tmem_tree::{MAX_SHORT, Tx};
 
-/// More milliseconds than a scene lasts.
-const MINUTE: u64 = 60_000;
-
 /// A transaction.
 #[derive(Clone, Copy)]
 pub(super) enum Task {
@@ -146,73 +143,6 @@ pub(super) enum Move {
     LooksAtLeast(u64),
 }
 
-/// By which call a task is committed: `atomically`, `try_atomically`, `atomically_within` for so many milliseconds,
-/// `atomically_with_room`, or `commit_durable`.
-#[derive(Clone, Copy)]
-pub(super) enum How {
-    Atomically,
-    AtOnce,
-    Within(u64),
-    WithRoom,
-    Durably,
-}
-
-/// So many additions to the one variable, of which each waits until the other one is at least so great, and one more each time.
-#[derive(Clone, Copy)]
-pub(super) struct Passing {
-    pub(super) var: u16,
-    pub(super) first: i64,
-    pub(super) other: u16,
-    pub(super) times: u64,
-    /// Whether each waits no longer than its limit.
-    pub(super) is_limited: bool,
-}
-
-impl Passing {
-    /// The next of them, which waits for this number.
-    pub(super) fn task(self, least: i64) -> Task {
-        Task::AddBehind(self.var, least, self.other)
-    }
-
-    /// How each is committed.
-    pub(super) fn how(self) -> How {
-        if self.is_limited {
-            How::Within(MINUTE)
-        } else {
-            How::WithRoom
-        }
-    }
-}
-
-impl Move {
-    /// The task that it commits by one call, and by which.
-    pub(super) fn commit(self) -> Option<(Task, How)> {
-        match self {
-            Move::Commit(task) => Some((task, How::Atomically)),
-            Move::TryCommit(task) => Some((task, How::AtOnce)),
-            Move::CommitWithin(task, millis) => Some((task, How::Within(millis))),
-            Move::CommitDurable(task) => Some((task, How::Durably)),
-            _ => None,
-        }
-    }
-
-    /// The additions that it makes, each of which waits for the one before.
-    pub(super) fn passing(self) -> Option<Passing> {
-        let (var, first, other, times, is_limited) = match self {
-            Move::PassOn(var, first, other, times) => (var, first, other, times, false),
-            Move::PassOnWithin(var, first, other, times) => (var, first, other, times, true),
-            _ => return None,
-        };
-        Some(Passing {
-            var,
-            first,
-            other,
-            times,
-            is_limited,
-        })
-    }
-}
-
 /// Which fault a move is refused with, without what some faults carry: so a line is plain data, and stands in a table.
 #[derive(Clone, Copy, Debug, PartialEq)]
 pub(super) enum Refusal {
@@ -284,79 +214,45 @@ impl Task {
     pub(super) fn tx(&self, alloc: Global) -> Result<Tx, AllocError> {
         match *self {
             Task::Write(var, number) => write(alloc, var, number),
+            Task::AddOne => long(alloc, add_one(alloc)?),
             Task::Copy => copy(alloc),
+            Task::NeedOne => long(alloc, need_one(alloc, 2)?),
             Task::WriteBoth(var, other, number) => write_both(alloc, var, other, number),
+            Task::NeedEither(var, other) => long(alloc, need_either(alloc, var, other)?),
             Task::WaitForEither(var, other) => wait_for_either(alloc, var, other),
+            Task::Never => Ok(Tx::Retry),
             Task::Choose => choose(alloc),
             Task::Abort(code) => Ok(Tx::Abort { code }),
+            Task::NeedLast(var) => long(alloc, need_last(alloc, var)?),
+            Task::AddBehind(var, least, other) => long(
+                alloc,
+                add_behind(alloc, var, least, other)?,
+            ),
             Task::WriteEach(number) => write_each(alloc, number),
-            other => other.tx_of_steps(alloc),
-        }
-    }
-
-    // The same of a task that calls a step, or names the invariant.
-    fn tx_of_steps(&self, alloc: Global) -> Result<Tx, AllocError> {
-        match *self {
-            Task::AddOne => long(alloc, add_one(alloc)),
-            Task::NeedOne => long(alloc, need_one(alloc, 2)),
-            Task::NeedEither(var, other) => long(alloc, need_either(alloc, var, other)),
-            Task::NeedLast(var) => long(alloc, need_last(alloc, var)),
-            Task::AddBehind(var, least, other) => long(alloc, add_behind(alloc, var, least, other)),
-            Task::AddOnceThereIsOne => long(alloc, add_once_there_is_one(alloc)),
-            other => other.tx_of_invariant(alloc),
-        }
-    }
-
-    // The same of a task that names the invariant. What is left is the one that only retries.
-    fn tx_of_invariant(&self, alloc: Global) -> Result<Tx, AllocError> {
-        match *self {
+            Task::AddOnceThereIsOne => {
+                let (first, second) = (add_one(alloc)?, need_one(alloc, 2)?);
+                long(alloc, Tx::Seq(vec![in alloc; first, second]?))
+            }
             Task::Register => Ok(check()),
             Task::ReadAndRegister => read_and_register(alloc),
-            Task::AddAndRegister => long(alloc, add_and_register(alloc)),
+            Task::AddAndRegister => {
+                long(alloc, Tx::Seq(vec![in alloc; add_one(alloc)?, check()]?))
+            }
             Task::Retire => Ok(retire()),
-            Task::WriteAndRetire(var, number) => write_and_retire(alloc, var, number),
-            _ => Ok(Tx::Retry),
+            Task::WriteAndRetire(var, number) => {
+                Ok(Tx::Seq(vec![in alloc; write(alloc, var, number)?, retire()]?))
+            }
         }
     }
 }
 
 // With 64 nodes behind it that do nothing: no short plan.
-fn long(alloc: Global, tx: Result<Tx, AllocError>) -> Result<Tx, AllocError> {
-    let mut txs = vec![in alloc; tx?]?;
+fn long(alloc: Global, tx: Tx) -> Result<Tx, AllocError> {
+    let mut txs = vec![in alloc; tx]?;
     for _ in 0..MAX_SHORT {
         txs.push(Tx::Skip)?;
     }
     Ok(Tx::Seq(txs))
-}
-
-// One behind the other, if both were built.
-fn both(
-    alloc: Global,
-    first: Result<Tx, AllocError>,
-    second: Result<Tx, AllocError>,
-) -> Result<Tx, AllocError> {
-    Ok(Tx::Seq(vec![in alloc; first?, second?]?))
-}
-
-// One, or where it retries the other.
-fn either(
-    alloc: Global,
-    first: Result<Tx, AllocError>,
-    second: Result<Tx, AllocError>,
-) -> Result<Tx, AllocError> {
-    Ok(Tx::OrElse(Box::new(alloc, first?)?, Box::new(alloc, second?)?))
-}
-
-fn add_once_there_is_one(alloc: Global) -> Result<Tx, AllocError> {
-    both(alloc, add_one(alloc), need_one(alloc, 2))
-}
-
-fn add_and_register(alloc: Global) -> Result<Tx, AllocError> {
-    both(alloc, add_one(alloc), Ok(check()))
-}
-
-fn write_and_retire(alloc: Global, var: u16, number: i64) -> Result<Tx, AllocError> {
-    both(alloc, write(alloc, var, number), Ok(retire()))
 }
 
 fn check() -> Tx {
@@ -395,7 +291,8 @@ fn add_to(alloc: Global, var: u16) -> Result<Tx, AllocError> {
 }
 
 fn add_behind(alloc: Global, var: u16, least: i64, other: u16) -> Result<Tx, AllocError> {
-    both(alloc, need(alloc, var, least), add_to(alloc, other))
+    let (first, second) = (need(alloc, var, least)?, add_to(alloc, other)?);
+    Ok(Tx::Seq(vec![in alloc; first, second]?))
 }
 
 fn read_and_register(alloc: Global) -> Result<Tx, AllocError> {
@@ -430,27 +327,27 @@ fn write_each(alloc: Global, number: i64) -> Result<Tx, AllocError> {
 }
 
 fn write_both(alloc: Global, var: u16, other: u16, number: i64) -> Result<Tx, AllocError> {
-    both(
-        alloc,
-        write(alloc, var, number),
-        write(alloc, other, number),
-    )
+    let (first, second) = (write(alloc, var, number)?, write(alloc, other, number)?);
+    Ok(Tx::Seq(vec![in alloc; first, second]?))
 }
 
 fn need_either(alloc: Global, var: u16, other: u16) -> Result<Tx, AllocError> {
-    either(alloc, need_one(alloc, var), need_one(alloc, other))
+    let (first, second) = (need_one(alloc, var)?, need_one(alloc, other)?);
+    Ok(Tx::OrElse(Box::new(alloc, first)?, Box::new(alloc, second)?))
 }
 
 fn choose(alloc: Global) -> Result<Tx, AllocError> {
     let mut tx = Tx::Retry;
     for _ in 0..30 {
-        tx = either(alloc, Ok(tx), Ok(Tx::Retry))?;
+        tx = Tx::OrElse(Box::new(alloc, tx)?, Box::new(alloc, Tx::Retry)?);
     }
-    either(alloc, Ok(tx), write(alloc, 0, 1))
+    let last = write(alloc, 0, 1)?;
+    Ok(Tx::OrElse(Box::new(alloc, tx)?, Box::new(alloc, last)?))
 }
 
 fn wait_for_either(alloc: Global, var: u16, other: u16) -> Result<Tx, AllocError> {
-    either(alloc, wait_for(alloc, var), wait_for(alloc, other))
+    let (first, second) = (wait_for(alloc, var)?, wait_for(alloc, other)?);
+    Ok(Tx::OrElse(Box::new(alloc, first)?, Box::new(alloc, second)?))
 }
 
 fn wait_for(alloc: Global, var: u16) -> Result<Tx, AllocError> {
@@ -513,30 +410,6 @@ impl Answer {
         match counted {
             Ok(number) => Answer::Number(number),
             Err(fault) => Answer::refused(fault),
-        }
-    }
-
-    /// The answer to a call that tells values, which are to be these.
-    pub(super) fn has(told: Result<Vec<i64>, Fault>, want: &[i64]) -> Answer {
-        match told {
-            Ok(values) => Answer::Holds(values.as_slice() == want),
-            Err(fault) => Answer::refused(fault),
-        }
-    }
-
-    /// The answer to one of which only the number of values counts.
-    pub(super) fn counted(told: Result<Vec<i64>, Fault>) -> Answer {
-        match told {
-            Ok(values) => Answer::Number(values.len() as u64),
-            Err(fault) => Answer::refused(fault),
-        }
-    }
-
-    /// The answer to the question which fault there is.
-    pub(super) fn of_fault(fault: Option<Fault>) -> Answer {
-        match fault {
-            Some(fault) => Answer::refused(fault),
-            None => Answer::Nothing,
         }
     }
 

@@ -77,52 +77,20 @@ pub(super) enum Part {
 impl Line<'_> {
     // What a part does by this line, and what it has to be answered.
     fn row(&self, part: Part) -> Option<(Move, Answer)> {
-        if self.is_of(part) { self.told() } else { None }
-    }
-
-    // Whether a part does something by this line.
-    fn is_of(&self, part: Part) -> bool {
-        matches!(
-            (self, part),
-            (Line::Before(_, _), Part::Before)
-                | (Line::First(_, _), Part::Thread(0))
-                | (Line::Second(_, _), Part::Thread(1))
-                | (Line::Third(_, _), Part::Thread(2))
-                | (Line::Last(_, _), Part::Thread(LAST))
-                | (Line::FirstThree(_, _), Part::Thread(0 | 1 | 2))
-                | (Line::All(_, _), Part::Thread(0 | 1 | 2 | LAST))
-                | (Line::FourMore(_, _), Part::Thread(4 | 5 | 6 | 7))
-                | (Line::Crowd(_, _), Part::Crowd)
-                | (Line::After(_, _), Part::After)
-        )
-    }
-
-    // What is done by this line, and what it has to be answered.
-    fn told(&self) -> Option<(Move, Answer)> {
-        match *self {
-            Line::Before(step, want)
-            | Line::First(step, want)
-            | Line::Second(step, want)
-            | Line::Third(step, want)
-            | Line::Last(step, want)
-            | Line::FirstThree(step, want)
-            | Line::All(step, want)
-            | Line::FourMore(step, want)
-            | Line::Crowd(step, want)
-            | Line::After(step, want) => Some((step, want)),
+        match (*self, part) {
+            (Line::Before(step, want), Part::Before)
+            | (Line::First(step, want), Part::Thread(0))
+            | (Line::Second(step, want), Part::Thread(1))
+            | (Line::Third(step, want), Part::Thread(2))
+            | (Line::Last(step, want), Part::Thread(LAST))
+            | (Line::FirstThree(step, want), Part::Thread(0 | 1 | 2))
+            | (Line::All(step, want), Part::Thread(0 | 1 | 2 | LAST))
+            | (Line::FourMore(step, want), Part::Thread(4 | 5 | 6 | 7))
+            | (Line::Crowd(step, want), Part::Crowd)
+            | (Line::After(step, want), Part::After) => Some((step, want)),
             _ => None,
         }
     }
-}
-
-// Whether a part does anything by these lines.
-fn has_part(lines: &[Line], part: Part) -> bool {
-    for line in lines {
-        if line.is_of(part) {
-            return true;
-        }
-    }
-    false
 }
 
 /// Which call of the device fails.
@@ -135,7 +103,7 @@ enum Failing {
 
 /// The device of a new store.
 #[derive(Clone, Copy)]
-pub(super) struct Device {
+struct Device {
     vars: u16,
     slots: u16,
     failing: Failing,
@@ -165,8 +133,8 @@ fn readings_of(lines: &[Line]) -> u64 {
     readings
 }
 
-/// What lines say of the device.
-pub(super) fn device_of(lines: &[Line]) -> Device {
+// What lines say of the device.
+fn device_of(lines: &[Line]) -> Device {
     let mut device = Device {
         vars: 100,
         slots: 4,
@@ -218,7 +186,7 @@ const CROWD: usize = 64;
 
 // How many threads a scene has.
 fn threads_of(lines: &[Line]) -> usize {
-    if has_part(lines, Part::Crowd) {
+    if lines.iter().any(|line| matches!(line, Line::Crowd(_, _))) {
         EIGHT + CROWD
     } else {
         EIGHT
@@ -258,7 +226,7 @@ impl<D: Disk + Drop, N: StoreNaming, T: Invariants + Drop, S: StoredSteps + Drop
 > {
     // Plays a part with hands of its own, if it does anything.
     fn play_alone<R: Clock + Wait>(&self, stage: &Stage<R>, part: Part) -> Option<Wrong> {
-        if !has_part(stage.lines, part) {
+        if stage.lines.iter().all(|line| line.row(part).is_none()) {
             return None;
         }
         self.play_from(stage, &mut Hands::new(), part)
@@ -342,19 +310,9 @@ fn play_all<F: Plays + Sync, R: Clock + Threads + Wait + Sync>(
         threads,
         &|thread| store.play(stage, thread),
     ) {
-        Ok(ended) => first_of(ended),
+        Ok(ended) => ended.into_iter().flatten().next(),
         Err(_) => Some(Wrong::NotBegun(Fault::Memory)),
     }
-}
-
-// What went wrong first, of what threads answered.
-fn first_of(ended: Vec<Option<Wrong>>) -> Option<Wrong> {
-    for wrong in ended {
-        if wrong.is_some() {
-            return wrong;
-        }
-    }
-    None
 }
 
 // A scene in a store, with the hands that begin it and end it.
@@ -407,22 +365,14 @@ fn new_disk(alloc: Global, device: Device) -> Result<SimDisk, Fault> {
     Ok(disk)
 }
 
-/// The same, as a scene wants it.
-pub(super) fn stage_disk<'a, R: Clock>(
-    stage: &Stage<'a, R>,
-    device: Device,
-) -> Result<StageDisk<'a, SimDisk, R>, Fault> {
-    Ok(StageDisk {
+// A new store.
+fn open<'a, R: Clock>(stage: &Stage<'a, R>, device: Device) -> Result<Opened<'a, R>, Fault> {
+    let disk = StageDisk {
         inner: new_disk(stage.alloc, device)?,
         rt: stage.rt,
         signals: stage.signals,
         sync_millis: device.sync_millis,
-    })
-}
-
-// A new store.
-fn open<'a, R: Clock>(stage: &Stage<'a, R>, device: Device) -> Result<Opened<'a, R>, Fault> {
-    let disk = stage_disk(stage, device)?;
+    };
     let vars = device.vars;
     let table = AlwaysTrue { vars };
     let steps = AddsAndNeeds {
@@ -453,82 +403,52 @@ fn play_named<N: StoreNaming + Send + Sync, R: Clock + Threads + Wait + Sync>(
     wrong
 }
 
-// A scene on its stage, in a new store.
-fn play_on_stage<R: Clock + Threads + Wait + Sync>(stage: &Stage<R>) -> Option<Wrong> {
-    match open(stage, device_of(stage.lines)) {
-        Ok(opened) => play_named::<Brand, _>(stage, opened),
-        Err(fault) => Some(Wrong::NotBegun(fault)),
-    }
-}
-
-// A scene, of whose lines the first one names it.
+// A scene, of whose lines the first one names it, in a new store.
 fn play_scene<R: Clock + Threads + Wait + Sync>(
     rt: &R,
     alloc: Global,
     lines: &[Line],
 ) -> Option<Wrong> {
     let signals = Signals::new();
-    play_on_stage(&Stage {
+    let stage = Stage {
         rt,
         alloc,
         signals: &signals,
         lines,
         skip: skip_of(lines),
         readings: readings_of(lines),
-    })
+    };
+    match open(&stage, device_of(lines)) {
+        Ok(opened) => play_named::<Brand, _>(&stage, opened),
+        Err(fault) => Some(Wrong::NotBegun(fault)),
+    }
 }
 
 // The lines of the scene that begins there.
 fn scene_at<'b, 'a>(lines: &'b [Line<'a>], begin: usize) -> &'b [Line<'a>] {
     let rest = &lines[begin.min(lines.len())..];
-    for (index, line) in rest.iter().enumerate() {
-        if index > 0 && matches!(line, Line::Scene(_)) {
-            return &rest[..index.min(rest.len())];
-        }
+    let ends = |(index, line): (usize, &Line)| index > 0 && matches!(line, Line::Scene(_));
+    match rest.iter().enumerate().position(ends) {
+        Some(end) => &rest[..end],
+        None => rest,
     }
-    rest
 }
-
-/// A part of each kind.
-static PARTS: &[Part] = &[
-    Part::Before,
-    Part::Thread(0),
-    Part::Thread(1),
-    Part::Thread(2),
-    Part::Thread(LAST),
-    Part::Thread(4),
-    Part::Crowd,
-    Part::After,
-];
 
 // Whether a scene has something that is done, so that no table is played in vain.
 fn is_played(lines: &[Line]) -> bool {
-    for part in PARTS {
-        if has_part(lines, *part) {
-            return true;
-        }
-    }
-    false
-}
-
-// Plays a scene, whose name is told where something went wrong.
-fn play_right<R: Abort + Clock + Threads + Wait + Sync>(
-    rt: &R,
-    alloc: Global,
-    name: &str,
-    scene: &[Line],
-) {
-    assert!(rt; is_played(scene), "{name}: nothing is done");
-    is_right(rt, name, play_scene(rt, alloc, scene));
-}
-
-/// Nothing went wrong.
-pub(super) fn is_right<R: Abort>(rt: &R, name: &str, wrong: Option<Wrong>) {
-    assert!(rt; wrong.is_none(), "{name}: {wrong:?}");
-}
-
-fn begins_with_scene(lines: &[Line]) -> bool {
-    matches!(lines.first(), Some(Line::Scene(_)))
+    let parts = [
+        Part::Before,
+        Part::Thread(0),
+        Part::Thread(1),
+        Part::Thread(2),
+        Part::Thread(LAST),
+        Part::Thread(4),
+        Part::Crowd,
+        Part::After,
+    ];
+    parts
+        .iter()
+        .any(|part| lines.iter().any(|line| line.row(*part).is_some()))
 }
 
 /// Plays the scenes of a table, each in a new store. Fails with what went wrong first.
@@ -537,10 +457,16 @@ pub(super) fn play<R: Abort + Clock + Threads + Wait + Sync>(
     alloc: Global,
     lines: &[Line],
 ) -> Result<(), Fail> {
-    assert!(rt; begins_with_scene(lines), "a table begins with a scene");
+    assert!(rt;
+        matches!(lines.first(), Some(Line::Scene(_))),
+        "a table begins with a scene"
+    );
     for (index, line) in lines.iter().enumerate() {
         if let Line::Scene(name) = line {
-            play_right(rt, alloc, name, scene_at(lines, index));
+            let scene = scene_at(lines, index);
+            assert!(rt; is_played(scene), "{name}: nothing is done");
+            let wrong = play_scene(rt, alloc, scene);
+            assert!(rt; wrong.is_none(), "{name}: {wrong:?}");
         }
     }
     Ok(())

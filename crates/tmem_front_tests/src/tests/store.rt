@@ -5,7 +5,7 @@ ghost use Rattle.tmem_tentative.specs.CursorFacts.{IsEndingFor-prop};
 ghost use Rattle.tmem_tentative.specs.Fits.{IsForVariables, IsForNames};
 ghost use Rattle.tmem_tree.specs.Plans.{FitsSteps, FitsVariables, FitsNames, FitsShapes};
 
-use super::moves::{Answer, How, Move, Task};
+use super::moves::{Answer, Move, Refusal, Task};
 use super::no_closures::always;
 use super::scenes::Line;
 use super::signals::Signals;
@@ -22,6 +22,12 @@ use tmem_front::{Front, Pace, Pass, StoreNaming};
 use tmem_invariants::Invariants;
 use tmem_tentative::Attempt;
 use tmem_tree::{Plan, StoredSteps, Tx};
+
+/// How often an addition is made at the most.
+const MOST_ATTEMPTS: u64 = 1_000_000;
+
+/// More milliseconds than a scene lasts.
+const MINUTE: u64 = 60_000;
 
 /// The front, in the hands of one thread.
 #[derive(Drop)]
@@ -148,40 +154,32 @@ impl<D: Disk + Drop, N: StoreNaming, T: Invariants + Drop, S: StoredSteps + Drop
         pass: &mut Pass<N>,
         step: Move,
     ) -> Answer {
-        if let Some((task, how)) = step.commit() {
-            return self.commit(stage, pass, task, how);
-        }
-        if let Some(passing) = step.passing() {
-            return self.pass_on(stage, pass, passing);
-        }
         match step {
+            Move::Commit(task) => self.commit(stage, pass, task),
+            Move::TryCommit(task) => self.try_commit(stage, pass, task),
             Move::Fill(times) => self.fill(stage, pass, Task::Write(0, 1), times),
             Move::FillBy(task, times) => self.fill(stage, pass, task, times),
+            Move::PassOn(var, first, other, times) => {
+                self.pass_on(stage, pass, (var, first, other), times, false)
+            }
+            Move::PassOnWithin(var, first, other, times) => {
+                self.pass_on(stage, pass, (var, first, other), times, true)
+            }
             Move::Add(times) => self.add(stage, pass, times),
-            Move::AddWithRoom(times) => self.add_by(stage, pass, How::WithRoom, times),
-            Move::AddDurably(times) => self.add_by(stage, pass, How::Durably, times),
+            Move::CommitWithin(task, millis) => self.commit_within(stage, pass, task, millis),
+            Move::AddWithRoom(times) => self.add_with_room(stage, pass, times),
+            Move::CommitDurable(task) => self.commit_durable(stage, pass, task),
+            Move::AddDurably(times) => self.add_durably(stage, pass, times),
             Move::CommitAndFlush(times) => self.commit_and_flush(stage, pass, times),
-            other => self.answer_seen(stage, pass, other),
-        }
-    }
-
-    // Plays a move that asks what a pass sees.
-    fn answer_seen<R: Clock + Wait>(
-        &self,
-        stage: &Stage<R>,
-        pass: &mut Pass<N>,
-        step: Move,
-    ) -> Answer {
-        match step {
             Move::Look => Answer::Number(self.front.look(pass)),
             Move::Seen => Answer::Number(pass.seen()),
             Move::Vouch(number) => self.vouch(stage, pass, number),
             Move::Await(number) => self.await_durable(stage, pass, number),
             Move::AwaitWithin(number, millis) => self.await_within(stage, pass, number, millis),
             Move::Count => Answer::Number(self.front.count(stage.rt, pass)),
-            Move::HasInvariant => self.has_invariant(stage, pass),
-            Move::ValuesAre(vars, want) => self.values_are(stage, pass, vars, want),
-            Move::CountValues(most) => self.count_values(stage, pass, most),
+            Move::HasInvariant => Answer::Holds(self.front.has(stage.rt, pass, &always())),
+            Move::ValuesAre(vars, want) => self.values_are(stage, pass, &vars, &want),
+            Move::CountValues(most) => Answer::number(self.count_values(stage, pass, most)),
             Move::FlushAll => Answer::number(self.front.flush_all(stage.rt, pass)),
             other => self.answer_alone(stage, other),
         }
@@ -192,24 +190,64 @@ impl<D: Disk + Drop, N: StoreNaming, T: Invariants + Drop, S: StoredSteps + Drop
         match step {
             Move::NewPasses(times) => self.new_passes(stage, times),
             Move::Peek(var) => self.peek(stage, var),
-            Move::LogIs(want) => self.log_is(stage, want),
-            Move::RunFlusher(left) => self.run_flusher(stage, left),
-            Move::LooksAtMost(most) => Answer::Holds(self.front.looks(stage.rt) <= most),
-            Move::LooksAtLeast(least) => Answer::Holds(self.front.looks(stage.rt) >= least),
-            other => self.answer_of_journal(stage, other),
-        }
-    }
-
-    // Plays a move that writes to the device, or ends the front.
-    fn answer_of_journal<R: Clock + Wait>(&self, stage: &Stage<R>, step: Move) -> Answer {
-        match step {
             Move::Flush => Answer::number(self.front.flush_once(stage.rt)),
             Move::FlushWithRoom => Answer::number(self.front.flush_with_room(stage.rt)),
+            Move::LogIs(want) => Answer::Holds(self.log(stage) == want),
+            Move::RunFlusher(left) => self.run_flusher(stage, left),
             Move::Checkpoint => Answer::done(self.front.checkpoint(stage.rt)),
             Move::Shut => self.shut(stage),
             Move::Close => Answer::done(self.front.close(stage.rt)),
-            Move::FaultOf => Answer::of_fault(self.front.fault(stage.rt)),
+            Move::FaultOf => match self.front.fault(stage.rt) {
+                Some(fault) => Answer::refused(fault),
+                None => Answer::Nothing,
+            },
+            Move::LooksAtMost(most) => Answer::Holds(self.front.looks(stage.rt) <= most),
+            Move::LooksAtLeast(least) => Answer::Holds(self.front.looks(stage.rt) >= least),
             other => stage.answer(other),
+        }
+    }
+
+    // The plan of a task.
+    fn plan<R>(&self, stage: &Stage<R>, task: Task) -> Result<Plan, Fault>
+        ensures steps { IfOk result (λ plan. FitsSteps (S.arities self.now.front.now.steps) plan.tree) }
+        ensures variables { IfOk result (FitsVariables self.now.front.now.vars) }
+        ensures names { IfOk result (λ plan. FitsNames N.program.names plan.tree) }
+        ensures shapes { IfOk result (FitsShapes N.program.tests) }
+    {
+        self.front.plan(task.tx(stage.alloc)?)
+    }
+
+    // Commits a task by `atomically`.
+    fn commit<R: Wait>(&self, stage: &Stage<R>, pass: &mut Pass<N>, task: Task) -> Answer {
+        match self.plan(stage, task) {
+            Ok(plan) => Answer::to(self.front.atomically(stage.rt, pass, &plan)),
+            Err(fault) => Answer::refused(fault),
+        }
+    }
+
+    // Commits a task, or retries for so long.
+    fn commit_within<R: Clock + Wait>(
+        &self,
+        stage: &Stage<R>,
+        pass: &mut Pass<N>,
+        task: Task,
+        millis: u64,
+    ) -> Answer {
+        let limit = limit_of(millis);
+        match self.plan(stage, task) {
+            Ok(plan) => {
+                let rt = stage.clock();
+                Answer::to(self.front.atomically_within(&rt, pass, &plan, limit))
+            }
+            Err(fault) => Answer::refused(fault),
+        }
+    }
+
+    // Commits a task by `try_atomically`.
+    fn try_commit<R: Wait>(&self, stage: &Stage<R>, pass: &mut Pass<N>, task: Task) -> Answer {
+        match self.plan(stage, task) {
+            Ok(plan) => Answer::to(self.front.try_atomically(stage.rt, pass, &plan)),
+            Err(fault) => Answer::refused(fault),
         }
     }
 
@@ -249,6 +287,132 @@ impl<D: Disk + Drop, N: StoreNaming, T: Invariants + Drop, S: StoredSteps + Drop
             }
             _ => Answer::Nothing,
         }
+    }
+
+    // How often a commit has the next number, from 0.
+    fn fill<R: Wait>(
+        &self,
+        stage: &Stage<R>,
+        pass: &mut Pass<N>,
+        task: Task,
+        times: u64,
+    ) -> Answer {
+        let mut in_order = 0u64;
+        for turn in 0..times {
+            if self.try_commit(stage, pass, task) == Answer::Committed(turn) {
+                in_order = in_order.saturating_add(1);
+            }
+        }
+        Answer::Number(in_order)
+    }
+
+    // Commits and flushes so often, or until one of these is refused.
+    fn commit_and_flush<R: Wait>(
+        &self,
+        stage: &Stage<R>,
+        pass: &mut Pass<N>,
+        times: u64,
+    ) -> Answer {
+        for _ in 0..times {
+            let committed = self.commit(stage, pass, Task::Write(0, 1));
+            if !matches!(committed, Answer::Committed(_)) {
+                return committed;
+            }
+            if let Err(fault) = self.front.flush_with_room(stage.rt) {
+                return Answer::refused(fault);
+            }
+        }
+        Answer::Number(times)
+    }
+
+    // How often an addition commits, which is made again after each conflict.
+    fn add<R: Wait>(&self, stage: &Stage<R>, pass: &mut Pass<N>, times: u64) -> Answer {
+        let mut committed = 0u64;
+        for _ in 0..MOST_ATTEMPTS {
+            if committed == times {
+                break;
+            }
+            match self.try_commit(stage, pass, Task::AddOne) {
+                Answer::Committed(_) => committed = committed.saturating_add(1),
+                Answer::Refused(Refusal::Conflict) => {}
+                other => return other,
+            }
+        }
+        Answer::Number(committed)
+    }
+
+    // How often an addition commits that waits for room.
+    fn add_with_room<R: Wait>(&self, stage: &Stage<R>, pass: &mut Pass<N>, times: u64) -> Answer {
+        for _ in 0..times {
+            match self.commit_with_room(stage, pass, Task::AddOne) {
+                Answer::Committed(_) => {}
+                other => return other,
+            }
+        }
+        Answer::Number(times)
+    }
+
+    // How often an addition commits that waits for one more each time.
+    fn pass_on<R: Clock + Wait>(
+        &self,
+        stage: &Stage<R>,
+        pass: &mut Pass<N>,
+        (var, first, other): (u16, i64, u16),
+        times: u64,
+        is_limited: bool,
+    ) -> Answer {
+        let (mut least, mut passed) = (first, 0u64);
+        for _ in 0..MOST_ATTEMPTS {
+            if passed == times {
+                break;
+            }
+            let task = Task::AddBehind(var, least, other);
+            let answer = if is_limited {
+                self.commit_within(stage, pass, task, MINUTE)
+            } else {
+                self.commit_with_room(stage, pass, task)
+            };
+            match answer {
+                Answer::Committed(_) => {
+                    least = least.saturating_add(1);
+                    passed = passed.saturating_add(1);
+                }
+                Answer::Refused(Refusal::Full) if is_limited => {}
+                other => return other,
+            }
+        }
+        Answer::Number(passed)
+    }
+
+    fn commit_with_room<R: Wait>(
+        &self,
+        stage: &Stage<R>,
+        pass: &mut Pass<N>,
+        task: Task,
+    ) -> Answer {
+        match self.plan(stage, task) {
+            Ok(plan) => Answer::to(self.front.atomically_with_room(stage.rt, pass, &plan)),
+            Err(fault) => Answer::refused(fault),
+        }
+    }
+
+    // Commits a task, and awaits it.
+    fn commit_durable<R: Wait>(&self, stage: &Stage<R>, pass: &mut Pass<N>, task: Task) -> Answer {
+        match self.plan(stage, task) {
+            Ok(plan) => Answer::to(self.front.commit_durable(stage.rt, pass, &plan)),
+            Err(fault) => Answer::refused(fault),
+        }
+    }
+
+    // How often an addition is durable.
+    fn add_durably<R: Wait>(&self, stage: &Stage<R>, pass: &mut Pass<N>, times: u64) -> Answer {
+        for _ in 0..times {
+            match self.commit_durable(stage, pass, Task::AddOne) {
+                Answer::Committed(_) => {}
+                other => return other,
+            }
+        }
+        Answer::Number(times)
     }
 
     // Takes a pass of the pool in place of what is there.
@@ -336,23 +500,28 @@ impl<D: Disk + Drop, N: StoreNaming, T: Invariants + Drop, S: StoredSteps + Drop
         &self,
         stage: &Stage<R>,
         pass: &mut Pass<N>,
-        vars: [u16; 3],
-        want: [i64; 3],
+        vars: &[u16],
+        want: &[i64],
     ) -> Answer {
-        Answer::has(self.front.values(stage.rt, pass, &vars), &want)
-    }
-
-    // Whether the invariant is registered.
-    fn has_invariant<R: Wait>(&self, stage: &Stage<R>, pass: &mut Pass<N>) -> Answer {
-        Answer::Holds(self.front.has(stage.rt, pass, &always()))
+        match self.front.values(stage.rt, pass, vars) {
+            Ok(values) => Answer::Holds(values.as_slice() == want),
+            Err(fault) => Answer::refused(fault),
+        }
     }
 
     // How many values are answered of the first so many variables.
-    fn count_values<R: Wait>(&self, stage: &Stage<R>, pass: &mut Pass<N>, most: u16) -> Answer {
-        match first_variables(stage.alloc, most) {
-            Ok(vars) => Answer::counted(self.front.values(stage.rt, pass, &vars)),
-            Err(fault) => Answer::refused(fault),
+    fn count_values<R: Wait>(
+        &self,
+        stage: &Stage<R>,
+        pass: &mut Pass<N>,
+        most: u16,
+    ) -> Result<u64, Fault> {
+        let mut vars = Vec::new(stage.alloc);
+        for var in 0..most {
+            vars.push(var)?;
         }
+        let values = self.front.values(stage.rt, pass, &vars)?;
+        Ok(values.len() as u64)
     }
 
     // The value of a variable, if a plan may read it.
@@ -364,10 +533,10 @@ impl<D: Disk + Drop, N: StoreNaming, T: Invariants + Drop, S: StoredSteps + Drop
         }
     }
 
-    // Whether so many flushes and checkpoints were made, and so many slots are free.
-    fn log_is<R: Wait>(&self, stage: &Stage<R>, want: [u64; 3]) -> Answer {
+    // How many flushes and checkpoints were made, and how many slots are free.
+    fn log<R: Wait>(&self, stage: &Stage<R>) -> [u64; 3] {
         let log = self.front.log(stage.rt);
-        Answer::Holds(is_log(log.flushes, log.checkpoints, log.free_slots, &want))
+        [log.flushes, log.checkpoints, u64::from(log.free_slots)]
     }
 
     fn run_flusher<R: Wait>(&self, stage: &Stage<R>, left: u64) -> Answer {
@@ -385,22 +554,8 @@ impl<D: Disk + Drop, N: StoreNaming, T: Invariants + Drop, S: StoredSteps + Drop
     }
 }
 
-// Whether a log has these numbers.
-fn is_log(flushes: u64, checkpoints: u64, free_slots: u16, want: &[u64; 3]) -> bool {
-    flushes == want[0] && checkpoints == want[1] && u64::from(free_slots) == want[2]
-}
-
-// The first so many variables.
-fn first_variables(alloc: Global, most: u16) -> Result<Vec<u16>, Fault> {
-    let mut vars = Vec::new(alloc);
-    for var in 0..most {
-        vars.push(var)?;
-    }
-    Ok(vars)
-}
-
-/// A limit of so many milliseconds, or the longest one.
-pub(super) fn limit_of(millis: u64) -> Duration {
+// A limit of so many milliseconds, or the longest one.
+fn limit_of(millis: u64) -> Duration {
     if millis == u64::MAX {
         Duration::MAX
     } else {
@@ -409,8 +564,8 @@ pub(super) fn limit_of(millis: u64) -> Duration {
 }
 
 impl<'a, R> Stage<'a, R> {
-    /// The clock of a wait that has a limit.
-    pub(super) fn clock(&self) -> Skipping<'a, R> {
+    // The clock of a wait that has a limit.
+    fn clock(&self) -> Skipping<'a, R> {
         Skipping::new(self.rt, self.skip, self.readings)
     }
 }

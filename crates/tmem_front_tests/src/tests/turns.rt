@@ -7,8 +7,8 @@ use super::moves::Answer::{Committed, Done};
 use super::moves::Move::{AwaitHeld, Commit, HoldSteps, Release, TryCommit};
 use super::moves::Task;
 use super::no_closures::{AddsAndNeeds, always};
-use super::scenes::Line::{Before, First, Last, Scene, Slots, Vars};
-use super::scenes::{Line, Wrong, device_of, is_right, play_on, stage_disk};
+use super::scenes::Line::{Before, First, Last, Scene};
+use super::scenes::{Line, Wrong, play_on};
 use super::signals::Signals;
 use super::stage_disk::StageDisk;
 use super::store::Stage;
@@ -23,6 +23,7 @@ use tmem_disk::SimDisk;
 use tmem_fault::Fault;
 use tmem_front::{OpenedFront, StoreNaming};
 use tmem_invariants::Invariants;
+use tmem_journal::{Layout, format};
 use tmem_tables::{Invariant, Table};
 
 const VARS: u16 = 1024;
@@ -32,8 +33,6 @@ const SLOTS: u16 = 4;
 /// The third time it is evaluated under the core's lock, from its start to its end.
 static SCENE: &[Line<'static>] = &[
     Scene("a transaction of more turns than nodes that met two conflicts is evaluated alone"),
-    Vars(VARS),
-    Slots(SLOTS),
     Before(HoldSteps(2), Done),
     First(Commit(Task::ReadAndRegister), Committed(2)),
     Last(AwaitHeld(1), Done),
@@ -46,6 +45,18 @@ static SCENE: &[Line<'static>] = &[
 
 /// A store over a table and the steps of scenes.
 type Opened<'a, T, R> = OpenedFront<StageDisk<'a, SimDisk, R>, T, AddsAndNeeds<'a>>;
+
+// A new device.
+fn new_disk<'a, R: Clock>(stage: &Stage<'a, R>) -> Result<StageDisk<'a, SimDisk, R>, Fault> {
+    let mut inner = SimDisk::new(stage.alloc, Layout::new(VARS, SLOTS)?.end())?;
+    format(&mut inner, VARS, SLOTS)?;
+    Ok(StageDisk {
+        inner,
+        rt: stage.rt,
+        signals: stage.signals,
+        sync_millis: 0,
+    })
+}
 
 // The scene in a store under its name.
 fn play_named<
@@ -72,20 +83,7 @@ fn play_on_stage<T: Invariants + Drop + Send, R: Clock + Threads + Wait + Sync>(
     requires names { T.names table ≡ over_two.names }
     requires tests { T.is_stated table over_two.tests }
 {
-    let disk = stage_disk(stage, device_of(stage.lines))?;
-    play_on_disk(stage, disk, table)
-}
-
-// The same on this device.
-fn play_on_disk<'a, T: Invariants + Drop + Send, R: Clock + Threads + Wait + Sync>(
-    stage: &Stage<'a, R>,
-    disk: StageDisk<'a, SimDisk, R>,
-    table: T,
-) -> Result<Option<Wrong>, Fault>
-    requires vars { T.vars table ≡ VARS }
-    requires names { T.names table ≡ over_two.names }
-    requires tests { T.is_stated table over_two.tests }
-{
+    let disk = new_disk(stage)?;
     let steps = AddsAndNeeds {
         signals: stage.signals,
     };
@@ -106,24 +104,21 @@ fn play_staged<T: Invariants + Drop + Send, R: Clock + Threads + Wait + Sync>(
     requires tests { T.is_stated table over_two.tests }
 {
     let signals = Signals::new();
-    play_on_stage(
-        &Stage {
-            rt,
-            alloc,
-            signals: &signals,
-            lines: SCENE,
-            skip: Duration::ZERO,
-            readings: u64::MAX,
-        },
-        table,
-    )
+    let stage = Stage {
+        rt,
+        alloc,
+        signals: &signals,
+        lines: SCENE,
+        skip: Duration::ZERO,
+        readings: u64::MAX,
+    };
+    play_on_stage(&stage, table)
 }
 
-// The same over a table of one invariant over two variables, which is always true.
-fn play_over_two<R: Clock + Threads + Wait + Sync>(
-    rt: &R,
-    alloc: Global,
-) -> Result<Option<Wrong>, Fault> {
+// at: 512 nodes, 1024 variables
+#[test]
+fn an_evaluation_alone_takes_more_turns_than_a_plan_has_nodes(rt: HostRuntime) -> Result<(), Fail> {
+    let alloc = rt.alloc();
     let test = Box::new(
         alloc,
         |values: &[i64]| -> bool
@@ -133,13 +128,7 @@ fn play_over_two<R: Clock + Threads + Wait + Sync>(
     )?;
     let invariant = Invariant::new(always(), vec![in alloc; 1, 2]?, test)?;
     let table = Table::of(alloc, vec![in alloc; invariant]?, VARS)?;
-    play_staged(rt, alloc, table)
-}
-
-// at: 512 nodes, 1024 variables
-#[test]
-fn an_evaluation_alone_takes_more_turns_than_a_plan_has_nodes(rt: HostRuntime) -> Result<(), Fail> {
-    let wrong = play_over_two(&rt, rt.alloc())?;
-    is_right(&rt, "an evaluation alone", wrong);
+    let wrong = play_staged(&rt, alloc, table)?;
+    assert!(rt; wrong.is_none(), "{wrong:?}");
     Ok(())
 }

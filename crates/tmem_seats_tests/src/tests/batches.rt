@@ -2,7 +2,6 @@
 ghost use Rattle.tmem_effect.specs.State.{AreApart};
 
 use std::alloc::{AllocError, Global};
-use std::process::Abort;
 use std::test::Fail;
 use tmem_effect::Effect;
 use tmem_fault::{Fault, Name};
@@ -198,16 +197,16 @@ fn is_decoded(decoded: &Decoded, (length, count, writes, checks, retires): Last)
     let Some(record) = decoded.effects.effects().last() else {
         return false;
     };
-    is_head(decoded, length, count)
+    let head = (
+        decoded.generation,
+        decoded.first,
+        decoded.length,
+        decoded.effects.len(),
+    );
+    head == (1, 0, length, count)
         && record.writes.as_slice() == writes
         && are_spelled(record.names.as_slice(), checks)
         && are_spelled(record.retired.as_slice(), retires)
-}
-
-/// Whether a batch of generation 1 and with number 0 is spelled by so many bytes, and has so many records.
-fn is_head(decoded: &Decoded, length: usize, count: usize) -> bool {
-    let numbers = (decoded.generation, decoded.first);
-    numbers == (1, 0) && (decoded.length, decoded.effects.len()) == (length, count)
 }
 
 /// Whether names have these letters, in this order.
@@ -253,21 +252,14 @@ fn is_read_in_front(alloc: Global, record: &Record) -> Result<bool, Fault> {
     is_read_alone(alloc, record, &bytes, length)
 }
 
-/// What is tested of a row, which these words tell, holds.
-fn is_so(rt: &impl Abort, row: usize, what: &str, holds: bool) {
-    assert!(rt; holds, "row {row}, {what}");
-}
-
 #[test]
 fn a_record_has_these_bytes(rt: HostRuntime) -> Result<(), Fail> {
     let alloc = rt.alloc();
     for (row, record) in RECORDS.iter().enumerate() {
-        is_so(&rt, row, "alone", is_record_of_its(alloc, record)?);
-        is_so(
-            &rt,
-            row,
-            "in front of others",
+        assert!(rt; is_record_of_its(alloc, record)?, "record {row}");
+        assert!(rt;
             is_read_in_front(alloc, record)?,
+            "record {row} in front of others"
         );
     }
     Ok(())
@@ -433,10 +425,10 @@ fn is_batch_of(alloc: Global, count: u8, records: &[u8], version: Version) -> Re
 #[test]
 fn a_batch_with_a_fault_is_not_read(rt: HostRuntime) -> Result<(), Fail> {
     for (row, (count, records, first, second)) in CONTENTS.iter().enumerate() {
-        let is_first = is_batch_of(rt.alloc(), *count, records, One)?;
-        is_so(&rt, row, "version 1", is_first == *first);
-        let is_second = is_batch_of(rt.alloc(), *count, records, Two)?;
-        is_so(&rt, row, "version 2", is_second == *second);
+        for (version, is_batch) in [(One, *first), (Two, *second)] {
+            let is_read = is_batch_of(rt.alloc(), *count, records, version)?;
+            assert!(rt; is_read == is_batch, "row {row}, {version:?}");
+        }
     }
     Ok(())
 }
@@ -542,7 +534,7 @@ static LARGE: &[(&'static [(u16, u8)], usize, usize)] = &[
 fn a_batch_takes_what_fits(rt: HostRuntime) -> Result<(), Fail> {
     for (row, (records, count, bytes)) in LARGE.iter().enumerate() {
         let had = taken(rt.alloc(), records)?;
-        is_so(&rt, row, "taken", had == (*count, *bytes));
+        assert!(rt; had == (*count, *bytes), "row {row}: {had:?}");
     }
     Ok(())
 }

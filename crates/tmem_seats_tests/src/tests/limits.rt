@@ -3,7 +3,6 @@ ghost use Rattle.std.specs.Prelude.{◌≡◌, true};
 ghost use Rattle.tmem_tree.specs.declared.step.StepAnswer.TheVariants.{Retry};
 
 use std::alloc::Global;
-use std::process::Abort;
 use std::test::Fail;
 use tmem_fault::{Cause, Fault, Name};
 use tmem_tables::{Invariant, Table};
@@ -24,43 +23,20 @@ fn a_step_of_five_arguments_is_refused(rt: HostRuntime) -> Result<(), Fail> {
     Ok(())
 }
 
-/// What something is to be refused by, if it is.
-#[derive(Clone, Copy)]
-enum Want {
-    Nothing,
-    BadName,
-    BadFootprint,
-}
-
-impl Want {
-    fn fault(self) -> Option<Fault> {
-        match self {
-            Want::Nothing => None,
-            Want::BadName => Some(Fault::BadName),
-            Want::BadFootprint => Some(Fault::BadFootprint),
-        }
-    }
-}
-
-/// What something is refused by, if it is, is what is wanted.
-fn is_refusal(rt: &impl Abort, had: Option<Fault>, want: Option<Fault>) {
-    assert!(rt; had == want, "{had:?} where {want:?} was wanted");
-}
-
 /// Footprints, and what they are refused by.
-static FOOTPRINTS: &[(&'static [u16], Want)] = &[
-    (&[], Want::BadFootprint),
-    (&[7], Want::Nothing),
+const FOOTPRINTS: [(&'static [u16], Option<Fault>); 6] = [
+    (&[], Some(Fault::BadFootprint)),
+    (&[7], None),
     (
         &[0, 1, 2, 3, 4, 5, 6, 7, 8, 9, 10, 11, 12, 13, 14, 15],
-        Want::Nothing,
+        None,
     ),
     (
         &[0, 1, 2, 3, 4, 5, 6, 7, 8, 9, 10, 11, 12, 13, 14, 15, 16],
-        Want::BadFootprint,
+        Some(Fault::BadFootprint),
     ),
-    (&[3, 2, 3], Want::BadFootprint),
-    (&[3, 2, 1], Want::Nothing),
+    (&[3, 2, 3], Some(Fault::BadFootprint)),
+    (&[3, 2, 1], None),
 ];
 
 /// What an invariant over this footprint is refused by.
@@ -77,22 +53,23 @@ fn refusal_over(alloc: Global, footprint: &[u16]) -> Result<Option<Fault>, Fault
 
 #[test]
 fn footprints_out_of_limits_are_refused(rt: HostRuntime) -> Result<(), Fail> {
-    for (footprint, want) in FOOTPRINTS {
-        is_refusal(&rt, refusal_over(rt.alloc(), footprint)?, want.fault());
+    for (footprint, fault) in FOOTPRINTS {
+        let had = refusal_over(rt.alloc(), footprint)?;
+        assert!(rt; had == fault, "{had:?} where {fault:?} was wanted");
     }
     Ok(())
 }
 
 /// Of tables over four variables: how many entries, of how many names, over which variable, and what they are refused by.
-static TABLES: &[(u8, u8, u16, Want)] = &[
-    (0, 1, 3, Want::Nothing),
-    (64, 64, 3, Want::Nothing),
-    (65, 65, 3, Want::BadName),
-    (2, 1, 3, Want::BadName),
-    (2, 1, 4, Want::BadName),
-    (65, 65, 4, Want::BadName),
-    (1, 1, 4, Want::BadFootprint),
-    (2, 2, 4, Want::BadFootprint),
+const TABLES: [(u8, u8, u16, Option<Fault>); 8] = [
+    (0, 1, 3, None),
+    (64, 64, 3, None),
+    (65, 65, 3, Some(Fault::BadName)),
+    (2, 1, 3, Some(Fault::BadName)),
+    (2, 1, 4, Some(Fault::BadName)),
+    (65, 65, 4, Some(Fault::BadName)),
+    (1, 1, 4, Some(Fault::BadFootprint)),
+    (2, 2, 4, Some(Fault::BadFootprint)),
 ];
 
 /// A name for each number.
@@ -119,12 +96,9 @@ fn refusal_of(alloc: Global, entries: u8, names: u8, var: u16) -> Result<Option<
 
 #[test]
 fn tables_out_of_limits_are_refused(rt: HostRuntime) -> Result<(), Fail> {
-    for (entries, names, var, want) in TABLES {
-        is_refusal(
-            &rt,
-            refusal_of(rt.alloc(), *entries, *names, *var)?,
-            want.fault(),
-        );
+    for (entries, names, var, fault) in TABLES {
+        let had = refusal_of(rt.alloc(), entries, names, var)?;
+        assert!(rt; had == fault, "{had:?} where {fault:?} was wanted");
     }
     Ok(())
 }

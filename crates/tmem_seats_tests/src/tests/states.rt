@@ -1,6 +1,5 @@
 //! A state whose registered names are as many as there may be.
 use std::alloc::Global;
-use std::process::Abort;
 use std::test::Fail;
 use tmem_effect::Effect;
 use tmem_fault::{Fault, Name};
@@ -62,17 +61,13 @@ fn after(
     if !is_committed(&mut state, &effect) {
         return Ok(None);
     }
-    Ok(Some((state.count(), state.names().len(), has_names(&state)?)))
-}
-
-/// Which of the names 0, 1, 63 and 64 are registered.
-fn has_names(state: &State) -> Result<[bool; 4], Fault> {
-    Ok([
+    let has = [
         state.has(&numbered(0)?),
         state.has(&numbered(1)?),
         state.has(&numbered(63)?),
         state.has(&numbered(64)?),
-    ])
+    ];
+    Ok(Some((state.count(), state.names().len(), has)))
 }
 
 /// The numbers of the names that are checked and of those that are retired, and what a full state is after them.
@@ -111,15 +106,11 @@ static EFFECTS: &[(
     ),
 ];
 
-/// What is tested of a row holds.
-fn is_so(rt: &impl Abort, row: usize, holds: bool) {
-    assert!(rt; holds, "row {row}");
-}
-
 #[test]
 fn a_full_state_takes_a_name_in_place_of_another(rt: HostRuntime) -> Result<(), Fail> {
     for (row, (checks, retires, wanted)) in EFFECTS.iter().enumerate() {
-        is_so(&rt, row, after(rt.alloc(), checks, retires)? == *wanted);
+        let had = after(rt.alloc(), checks, retires)?;
+        assert!(rt; had == *wanted, "row {row}: {had:?}");
     }
     Ok(())
 }

@@ -1,11 +1,10 @@
 //! Names, and the lines of refusals.
 use std::alloc::{AllocError, Global};
-use std::process::Abort;
 use std::test::Fail;
 use tmem_fault::{Cause, Fault, Name};
 
 /// Texts, and whether they are names.
-static TEXTS: &[(&str, bool)] = &[
+const TEXTS: &[(&str, bool)] = &[
     ("a", true),
     ("nonneg", true),
     ("abcdefghijklmnop", true),
@@ -30,15 +29,10 @@ fn makes_name(text: &str) -> Option<bool> {
     }
 }
 
-/// What is tested of a text holds.
-fn is_so(rt: &impl Abort, text: &str, holds: bool) {
-    assert!(rt; holds, "{text}");
-}
-
 #[test]
 fn a_name_is_one_to_sixteen_letters(rt: HostRuntime) -> Result<(), Fail> {
     for (text, is_name) in TEXTS {
-        is_so(&rt, text, makes_name(text) == Some(*is_name));
+        assert!(rt; makes_name(text) == Some(*is_name), "{text}");
     }
     assert!(rt; is_before("ab", "b")? && is_before("a", "aa")?);
     Ok(())
@@ -48,6 +42,27 @@ fn a_name_is_one_to_sixteen_letters(rt: HostRuntime) -> Result<(), Fail> {
 fn is_before(one: &str, other: &str) -> Result<bool, Fault> {
     Ok(Name::new(one)? < Name::new(other)?)
 }
+
+const LINES: [(Fault, &'static str); 18] = [
+    (Fault::Memory, "fault 1 memory"),
+    (Fault::Device, "fault 2 device"),
+    (Fault::Closed, "fault 3 closed"),
+    (Fault::Unknown, "fault 4 unknown"),
+    (Fault::Full, "fault 5 full"),
+    (Fault::LogFull, "fault 6 logfull"),
+    (Fault::Conflict, "fault 7 conflict"),
+    (Fault::NotFormatted, "fault 8 notformatted"),
+    (Fault::Damaged, "fault 9 damaged"),
+    (Fault::BadPlan(Cause::TooDeep), "fault 12 badplan 1"),
+    (Fault::BadPlan(Cause::TooManyWrites), "fault 12 badplan 3"),
+    (Fault::BadPlan(Cause::UnknownName), "fault 12 badplan 9"),
+    (Fault::BadPlan(Cause::TooManyRetires), "fault 12 badplan 10"),
+    (Fault::BadName, "fault 13 badname"),
+    (Fault::BadFootprint, "fault 14 badfootprint"),
+    (Fault::Spent, "fault 15 spent"),
+    (Fault::NoSeat, "fault 16 noseat"),
+    (Fault::Geometry, "fault 17 geometry"),
+];
 
 fn is_printed(alloc: Global, fault: Fault, line: &str) -> Result<bool, AllocError> {
     let printed = format!(in alloc; "{fault}")?;
@@ -63,64 +78,11 @@ fn are_named(alloc: Global) -> Result<bool, Fault> {
     )
 }
 
-/// A fault has this line.
-fn has_line(rt: &impl Abort, alloc: Global, fault: Fault, line: &str) -> Result<(), AllocError> {
-    is_so(rt, line, is_printed(alloc, fault, line)?);
-    Ok(())
-}
-
-fn faults_of_calls_have_lines(rt: &impl Abort, alloc: Global) -> Result<(), AllocError> {
-    has_line(rt, alloc, Fault::Memory, "fault 1 memory")?;
-    has_line(rt, alloc, Fault::Device, "fault 2 device")?;
-    has_line(rt, alloc, Fault::Closed, "fault 3 closed")?;
-    has_line(rt, alloc, Fault::Unknown, "fault 4 unknown")?;
-    has_line(rt, alloc, Fault::Full, "fault 5 full")?;
-    has_line(rt, alloc, Fault::LogFull, "fault 6 logfull")?;
-    has_line(rt, alloc, Fault::Conflict, "fault 7 conflict")
-}
-
-fn faults_of_plans_have_lines(rt: &impl Abort, alloc: Global) -> Result<(), AllocError> {
-    has_line(
-        rt,
-        alloc,
-        Fault::BadPlan(Cause::TooDeep),
-        "fault 12 badplan 1",
-    )?;
-    has_line(
-        rt,
-        alloc,
-        Fault::BadPlan(Cause::TooManyWrites),
-        "fault 12 badplan 3",
-    )?;
-    has_line(
-        rt,
-        alloc,
-        Fault::BadPlan(Cause::UnknownName),
-        "fault 12 badplan 9",
-    )?;
-    has_line(
-        rt,
-        alloc,
-        Fault::BadPlan(Cause::TooManyRetires),
-        "fault 12 badplan 10",
-    )
-}
-
-fn faults_of_stores_have_lines(rt: &impl Abort, alloc: Global) -> Result<(), AllocError> {
-    has_line(rt, alloc, Fault::NotFormatted, "fault 8 notformatted")?;
-    has_line(rt, alloc, Fault::Damaged, "fault 9 damaged")?;
-    has_line(rt, alloc, Fault::BadName, "fault 13 badname")?;
-    has_line(rt, alloc, Fault::BadFootprint, "fault 14 badfootprint")?;
-    has_line(rt, alloc, Fault::Spent, "fault 15 spent")?;
-    has_line(rt, alloc, Fault::NoSeat, "fault 16 noseat")?;
-    has_line(rt, alloc, Fault::Geometry, "fault 17 geometry")
-}
-
 #[test]
 fn each_fault_has_its_line(rt: HostRuntime) -> Result<(), Fail> {
-    faults_of_calls_have_lines(&rt, rt.alloc())?;
-    faults_of_plans_have_lines(&rt, rt.alloc())?;
-    faults_of_stores_have_lines(&rt, rt.alloc())?;
+    for (fault, line) in LINES {
+        assert!(rt; is_printed(rt.alloc(), fault, line)?, "{line}");
+    }
     assert!(rt; are_named(rt.alloc())?);
     Ok(())
 }

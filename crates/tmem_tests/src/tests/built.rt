@@ -31,7 +31,7 @@ enum Built {
 }
 
 /// How a transaction ends.
-#[derive(Clone, Copy, PartialEq)]
+#[derive(Clone, Copy, Debug, PartialEq)]
 enum Ends {
     Commits,
     Sees,
@@ -41,7 +41,7 @@ enum Ends {
 }
 
 /// What is built, one after another on a store of zeros, and how each ends.
-static ROWS: &[(Built, Ends)] = &[
+const ROWS: &[(Built, Ends)] = &[
     (Built::Put(0, 7), Ends::Commits),
     (Built::Is(0, 7), Ends::Sees),
     (Built::Is(0, 8), Ends::Retries),
@@ -80,17 +80,10 @@ impl Built {
             Built::AddTo(var, n) => add_to(alloc, var, n),
             Built::Take(var, n) => take(alloc, var, n),
             Built::Move(from, to, n) => moves(alloc, from, to, n),
-            other => other.choice(alloc),
-        }
-    }
-
-    /// The same of what is made of alternatives, which all others are.
-    fn choice(self, alloc: Global) -> Result<Tx, AllocError> {
-        match self {
-            Built::TakeOrPut(n) => takes_or_puts(alloc, n),
+            Built::TakeOrPut(n) => first_of(alloc, take(alloc, 0, 1)?, put(alloc, 2, n)?),
             Built::TakeOrPutOr(n) => takes_or_puts_or(alloc, n),
             Built::LastOfTen(n) => last_of_ten(alloc, n),
-            _ => first_of_several(alloc, Vec::new(alloc)),
+            Built::OneOfNone => first_of_several(alloc, Vec::new(alloc)),
         }
     }
 }
@@ -100,36 +93,18 @@ fn moves(alloc: Global, from: u16, to: u16, n: i64) -> Result<Tx, AllocError> {
     Ok(all_of(vec![in alloc; taken, added]?))
 }
 
-fn takes_or_puts(alloc: Global, n: i64) -> Result<Tx, AllocError> {
-    first_of(alloc, take(alloc, 0, 1)?, put(alloc, 2, n)?)
-}
-
 fn takes_or_puts_or(alloc: Global, n: i64) -> Result<Tx, AllocError> {
-    let mut alternatives = Vec::new(alloc);
-    push(&mut alternatives, take(alloc, 0, 1))?;
-    push(&mut alternatives, put(alloc, 2, n))?;
-    push(&mut alternatives, put(alloc, 2, 1))?;
-    first_of_several(alloc, alternatives)
-}
-
-/// Puts an alternative behind others, if it was built.
-fn push(alternatives: &mut Vec<Tx>, built: Result<Tx, AllocError>) -> Result<(), AllocError> {
-    alternatives.push(built?)?;
-    Ok(())
+    let (taken, this, other) = (take(alloc, 0, 1)?, put(alloc, 2, n)?, put(alloc, 2, 1)?);
+    first_of_several(alloc, vec![in alloc; taken, this, other]?)
 }
 
 fn last_of_ten(alloc: Global, n: i64) -> Result<Tx, AllocError> {
-    let mut alternatives = nine_retries(alloc)?;
-    push(&mut alternatives, put(alloc, 2, n))?;
-    first_of_several(alloc, alternatives)
-}
-
-fn nine_retries(alloc: Global) -> Result<Vec<Tx>, AllocError> {
     let mut alternatives = Vec::new(alloc);
     for _ in 0..9 {
         alternatives.push(Tx::Retry)?;
     }
-    Ok(alternatives)
+    alternatives.push(put(alloc, 2, n)?)?;
+    first_of_several(alloc, alternatives)
 }
 
 fn end_of(reply: &Reply) -> Ends {
@@ -142,30 +117,18 @@ fn end_of(reply: &Reply) -> Ends {
     }
 }
 
-/// How what is built ends.
-fn end_by<T: Invariants + Drop, S: StoredSteps + Drop>(
-    alloc: Global,
-    world: &mut World<SimDisk, T, S>,
-    built: Built,
-) -> Result<Ends, Fault> {
-    Ok(end_of(&commit(world, built.tx(alloc)?)))
-}
-
 fn plays<T: Invariants + Drop, S: StoredSteps + Drop>(
     rt: &impl Abort,
     alloc: Global,
     world: &mut World<SimDisk, T, S>,
 ) -> Result<(), Fault> {
-    for (row, (built, want)) in ROWS.iter().enumerate() {
-        let had = end_by(alloc, world, *built)?;
-        is_so(rt, row, had == *want);
+    let mut row = 0u32;
+    for (built, want) in ROWS {
+        let had = end_of(&commit(world, built.tx(alloc)?));
+        assert!(rt; had == *want, "row {row} ends as {had:?}");
+        row = row.wrapping_add(1);
     }
     Ok(())
-}
-
-/// The transaction of a row ends as it should.
-fn is_so(rt: &impl Abort, row: usize, ends_so: bool) {
-    assert!(rt; ends_so, "row {row} ends otherwise");
 }
 
 fn plays_over<T: Invariants + Drop, S: StoredSteps + Drop>(

@@ -23,7 +23,7 @@ use tmem_tree::{Plan, StoredSteps, Tx};
 use tmem_world::Settled;
 
 /// A call that settles a transaction, or an attempt with its settle.
-#[derive(Clone, Copy)]
+#[derive(Clone, Copy, Debug)]
 enum Call {
     AttemptAndSettle,
     TryAtomically,
@@ -59,7 +59,7 @@ const REFUSED_ROOM: &[Call] = &[
     Call::AtomicallyWithin,
 ];
 
-#[derive(Clone, Copy)]
+#[derive(Clone, Copy, Debug)]
 enum Task {
     /// Writes a 1 to variable 0.
     Write,
@@ -75,7 +75,7 @@ enum Task {
 }
 
 /// How it ends.
-#[derive(Clone, Copy, PartialEq)]
+#[derive(Clone, Copy, Debug, PartialEq)]
 enum Ends {
     /// With the next number, from 0.
     Commits,
@@ -88,7 +88,7 @@ enum Ends {
 }
 
 /// By which calls what is settled, how often by each, and how it ends.
-static ROWS: &[(&[Call], Task, u32, Ends)] = &[
+const ROWS: &[(&[Call], Task, u32, Ends)] = &[
     (ALL, Task::EachForm(1), 1, Ends::Aborts(7)),
     (ALL, Task::Largest(-1), 1, Ends::Breaks),
     (ALL, Task::Reads, 1, Ends::SeesNothing),
@@ -149,26 +149,16 @@ fn largest(alloc: Global, number: i64) -> Result<Tx, AllocError> {
     for var in 0..64 {
         all.push(Tx::Write { var, reg: 0 })?;
     }
-    push_names(&mut all)?;
-    for _ in 0..400 {
-        all.push(Tx::Skip)?;
-    }
-    thirty_deeper(alloc, Tx::Seq(all))
-}
-
-/// Retires 8 times, and then checks 8 times.
-fn push_names(all: &mut Vec<Tx>) -> Result<(), AllocError> {
     for _ in 0..8 {
         all.push(Tx::Retire { name: names()[0] })?;
     }
     for _ in 0..8 {
         all.push(Tx::Check { name: names()[0] })?;
     }
-    Ok(())
-}
-
-fn thirty_deeper(alloc: Global, inner: Tx) -> Result<Tx, AllocError> {
-    let mut tx = inner;
+    for _ in 0..400 {
+        all.push(Tx::Skip)?;
+    }
+    let mut tx = Tx::Seq(all);
     for _ in 0..30 {
         tx = Tx::Seq(vec![in alloc; tx]?);
     }
@@ -193,12 +183,12 @@ fn reads_and_checks(alloc: Global) -> Result<Tx, AllocError> {
 }
 
 /// Makes variable 0 this number, which is negative.
-fn write_negative(alloc: Global, number: i64) -> Result<Tx, Fault> {
+fn write_negative(alloc: Global, number: i64) -> Result<Tx, AllocError> {
     Ok(Tx::Seq(vec![in alloc; Tx::Put { reg: 0, number }, Tx::Write { var: 0, reg: 0 }]?))
 }
 
 /// The same, checks that it is not negative, and makes it 2.
-fn check_negative(alloc: Global, number: i64) -> Result<Tx, Fault> {
+fn check_negative(alloc: Global, number: i64) -> Result<Tx, AllocError> {
     Ok(Tx::Seq(vec![in alloc;
         Tx::Put { reg: 0, number },
         Tx::Write { var: 0, reg: 0 },
@@ -310,11 +300,6 @@ fn first_alone(told: Option<Vec<(u16, i64)>>) -> Option<i64> {
     }
 }
 
-/// The same of what a call tells.
-fn alone(told: Result<Option<Vec<(u16, i64)>>, Fault>) -> Result<Option<i64>, Fault> {
-    Ok(first_alone(told?))
-}
-
 /// The value of variable 0 by which the invariant refuses a plan, where it does.
 fn why<
     D: Disk + Drop,
@@ -325,7 +310,7 @@ fn why<
 >(rt: &R, front: &Front<D, N, T, S>, pass: &mut Pass<N>, tx: Tx) -> Result<Option<i64>, Fault> {
     let name = names()[0];
     let plan = front.plan(tx)?;
-    alone(front.why_refused(rt, pass, &plan, &name))
+    Ok(first_alone(front.why_refused(rt, pass, &plan, &name)?))
 }
 
 /// The value of variable 0 by which it refuses an attempt at a plan.
@@ -338,15 +323,7 @@ fn why_attempt<
 >(rt: &R, front: &Front<D, N, T, S>, pass: &mut Pass<N>, tx: Tx) -> Result<Option<i64>, Fault> {
     let name = names()[0];
     let attempt = front.attempt(rt, &front.plan(tx)?)?;
-    alone(front.why_attempt_refused(rt, pass, &attempt, &name))
-}
-
-/// What is so called is refused by this value.
-fn is_refused_by(rt: &impl Abort, what: &str, had: Option<i64>, want: Option<i64>) {
-    assert!(rt;
-        had == want,
-        "{what} is refused by {had:?}, not by {want:?}"
-    );
+    Ok(first_alone(front.why_attempt_refused(rt, pass, &attempt, &name)?))
 }
 
 /// Asks by which value a plan is refused, which is to be this.
@@ -360,10 +337,14 @@ fn ask<
     rt: &R,
     front: &Front<D, N, T, S>,
     pass: &mut Pass<N>,
-    tx: Result<Tx, Fault>,
+    tx: Tx,
     want: Option<i64>,
 ) -> Result<(), Fault> {
-    is_refused_by(rt, "a plan", why(rt, front, pass, tx?)?, want);
+    let had = why(rt, front, pass, tx)?;
+    assert!(rt;
+        had == want,
+        "a plan is refused by {had:?}, not by {want:?}"
+    );
     Ok(())
 }
 
@@ -378,10 +359,14 @@ fn ask_of_attempt<
     rt: &R,
     front: &Front<D, N, T, S>,
     pass: &mut Pass<N>,
-    tx: Result<Tx, Fault>,
+    tx: Tx,
     want: Option<i64>,
 ) -> Result<(), Fault> {
-    is_refused_by(rt, "an attempt", why_attempt(rt, front, pass, tx?)?, want);
+    let had = why_attempt(rt, front, pass, tx)?;
+    assert!(rt;
+        had == want,
+        "an attempt is refused by {had:?}, not by {want:?}"
+    );
     Ok(())
 }
 
@@ -393,30 +378,14 @@ fn ask_why<
     S: StoredSteps + Drop,
     R: Abort + Clock + Wait,
 >(rt: &R, alloc: Global, front: &Front<D, N, T, S>, pass: &mut Pass<N>) -> Result<(), Fault> {
-    ask(rt, front, pass, check_negative(alloc, -7), Some(-7))?;
-    ask(rt, front, pass, write_negative(alloc, -4), Some(-4))?;
-    ask(rt, front, pass, write(alloc, 0, 1), None)?;
-    ask_why_attempts(rt, alloc, front, pass)
+    ask(rt, front, pass, check_negative(alloc, -7)?, Some(-7))?;
+    ask(rt, front, pass, write_negative(alloc, -4)?, Some(-4))?;
+    ask(rt, front, pass, write(alloc, 0, 1)?, None)?;
+    ask_of_attempt(rt, front, pass, write_negative(alloc, -5)?, Some(-5))?;
+    ask_of_attempt(rt, front, pass, write(alloc, 0, 1)?, None)
 }
 
-/// The same of attempts.
-fn ask_why_attempts<
-    D: Disk + Drop,
-    N: StoreNaming,
-    T: Invariants + Drop,
-    S: StoredSteps + Drop,
-    R: Abort + Clock + Wait,
->(rt: &R, alloc: Global, front: &Front<D, N, T, S>, pass: &mut Pass<N>) -> Result<(), Fault> {
-    ask_of_attempt(rt, front, pass, write_negative(alloc, -5), Some(-5))?;
-    ask_of_attempt(rt, front, pass, write(alloc, 0, 1), None)
-}
-
-/// The call of a row ends as it should.
-fn is_so(rt: &impl Abort, row: usize, call: usize, ends_so: bool) {
-    assert!(rt; ends_so, "call {call} of row {row} ends otherwise");
-}
-
-/// Plays the rows, and then asks why plans and attempts are refused.
+/// Plays the rows.
 fn play<
     D: Disk + Drop,
     N: StoreNaming,
@@ -425,11 +394,11 @@ fn play<
     R: Abort + Clock + Wait,
 >(rt: &R, alloc: Global, front: &Front<D, N, T, S>, pass: &mut Pass<N>) -> Result<(), Fault> {
     let mut committed = 0u64;
-    for (row, (calls, task, times, want)) in ROWS.iter().enumerate() {
-        for (place, call) in calls.iter().enumerate() {
+    for (calls, task, times, want) in ROWS {
+        for call in *calls {
             for _ in 0..*times {
                 let had = end_by(rt, alloc, front, pass, (*call, *task), committed)?;
-                is_so(rt, row, place, had == *want);
+                assert!(rt; had == *want, "{task:?} by {call:?} ends so: {had:?}");
                 committed = committed.wrapping_add(u64::from(had == Ends::Commits));
             }
         }

@@ -63,16 +63,12 @@ fn flush_and_reopen<T: Invariants + Drop, S: StoredSteps + Drop>(
     alloc: Global,
     world: &mut World<SimDisk, T, S>,
 ) -> Result<(), Fault> {
-    let had = world.play(vec![in alloc; Event::Flush, Event::Reopen, Event::Look]?)?;
-    assert!(rt; are_found(had.as_slice()));
+    let events = vec![in alloc; Event::Flush, Event::Reopen, Event::Look]?;
+    let had = world.play(events)?;
+    let want = [Reply::Durable(64), Reply::Opened(64), Reply::Looked(64)];
+    assert!(rt; had.as_slice() == want.as_slice());
     assert!(rt; has_all(world)?);
     Ok(())
-}
-
-/// Whether these are the replies to that list.
-fn are_found(had: &[Reply]) -> bool {
-    let want = [Reply::Durable(64), Reply::Opened(64), Reply::Looked(64)];
-    had == want.as_slice()
 }
 
 /// Finds them, and again after a checkpoint.
