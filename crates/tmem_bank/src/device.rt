@@ -29,22 +29,10 @@ pub fn device_in_file<R: AllocGlobal + Files<File = File>>(
     }
 }
 
-// A new file that is formatted.
-fn new_file<R: AllocGlobal + Files<File = File>>(rt: &R, path: &str) -> Result<FileDisk, Fault> {
-    let size = Layout::new(ACCOUNTS, SLOTS)?.end();
-    name_once_formatted(rt, NewFile::create(rt, path, size)?)
-}
-
-fn format_new(new: &mut NewFile) -> Result<(), Fault> {
-    format(&mut new.disk, ACCOUNTS, SLOTS)
-}
-
 // A file gets its path once it is formatted.
-fn name_once_formatted<R: AllocGlobal + Files<File = File>>(
-    rt: &R,
-    mut new: NewFile,
-) -> Result<FileDisk, Fault> {
-    match format_new(&mut new) {
+fn new_file<R: AllocGlobal + Files<File = File>>(rt: &R, path: &str) -> Result<FileDisk, Fault> {
+    let mut new = NewFile::create(rt, path, Layout::new(ACCOUNTS, SLOTS)?.end())?;
+    match format(&mut new.disk, ACCOUNTS, SLOTS) {
         Ok(()) => new.give_name(rt),
         Err(fault) => {
             new.discard(rt);

@@ -6,7 +6,6 @@
 ghost use Rattle.std.specs.Prelude.{◌≡◌};
 ghost use Rattle.std.specs.List.{list_any};
 ghost use Rattle.tmem_builtins.specs.Invariants.{has_no_negative, is_negative};
-ghost use Rattle.tmem_invariants.specs.Answers.{MayCall, Gives};
 ghost use Rattle.tmem_bank.specs.Accounts.{bank};
 
 mod device;
@@ -25,42 +24,21 @@ use std::thread::Threads;
 use tmem_builtins::stored_steps;
 use tmem_fault::Name;
 use tmem_invariants::Invariants;
-use tmem_tables::{Invariant, Table, Test};
+use tmem_tables::{Invariant, Table};
 use tmem_tree::StoredSteps;
 
 fn main(rt: HostRuntime) -> Result<()> {
+    let alloc = rt.alloc();
     let path = env::args(&rt)?.nth(1);
-    with_closure(&rt, rt.alloc(), path.as_deref())
-}
-
-// Makes the closure of the invariant.
-fn with_closure<R: AllocGlobal + Clock + Files<File = File> + Print + Threads + Wait + Sync>(
-    rt: &R,
-    alloc: Global,
-    path: Option<&str>,
-) -> Result<()> {
     let solvent = Box::new(
         alloc,
         |accounts: &[i64]| -> bool
             ensures { result ≡ has_no_negative accounts.now }
         { !has_negative(accounts) },
     )?;
-    with_test(rt, alloc, path, solvent)
-}
-
-// Makes the invariant of this test, and its table.
-fn with_test<R: AllocGlobal + Clock + Files<File = File> + Print + Threads + Wait + Sync>(
-    rt: &R,
-    alloc: Global,
-    path: Option<&str>,
-    test: Test,
-) -> Result<()>
-    requires callable { MayCall (Test.pre test) 4 }
-    requires stated { Gives (Test.post test) 4 has_no_negative }
-{
-    let solvent = Invariant::new(Name::new("solvent")?, vec![in alloc; 0, 1, 2, 3]?, test)?;
+    let solvent = Invariant::new(Name::new("solvent")?, vec![in alloc; 0, 1, 2, 3]?, solvent)?;
     let table = Table::of(alloc, vec![in alloc; solvent]?, ACCOUNTS)?;
-    with_device(rt, alloc, path, table, stored_steps())
+    with_device(&rt, alloc, path.as_deref(), table, stored_steps())
 }
 
 // Whether an account is below zero.

@@ -13,7 +13,7 @@ use std::sync::Wait;
 use std::thread::{self, Threads, map_indices};
 use tmem_core::Settled;
 use tmem_disk::Disk;
-use tmem_fault::{Fault, Name};
+use tmem_fault::Fault;
 use tmem_front::{Front, Gathering, OpenedFront, Pass, StoreNaming};
 use tmem_invariants::Invariants;
 use tmem_tree::{Plan, StoredSteps};
@@ -85,7 +85,7 @@ fn run_by<
     open_accounts(rt, alloc, front, clerk)?;
     move_alone(rt, alloc, front, clerk)?;
     serve(rt, alloc, front)?;
-    say_number(rt, "durable", front.look(clerk));
+    let _ = println!(rt; "durable {}", front.look(clerk));
     Ok(())
 }
 
@@ -98,7 +98,7 @@ fn open_accounts<
     R: Print + Wait,
 >(rt: &R, alloc: Global, front: &Front<D, N, T, S>, pass: &mut Pass<N>) -> Result<(), Fault> {
     let found = front.look(pass);
-    say_number(rt, "found", found);
+    let _ = println!(rt; "found {found}");
     if found == 0 {
         let opening = front.plan(deposits(alloc)?)?;
         settle_and_say(rt, front, pass, &opening)?;
@@ -154,10 +154,10 @@ fn settle_late<
     requires shapes { FitsShapes N.program.tests plan.now }
 {
     let late = front.attempt(rt, plan)?;
-    say_line(rt, "attempted");
+    let _ = println!(rt; "attempted");
     settle_and_say(rt, front, pass, plan)?;
     if let Err(fault) = front.settle(rt, pass, &late) {
-        say_fault(rt, fault);
+        let _ = println!(rt; "{fault}");
     }
     Ok(())
 }
@@ -172,7 +172,7 @@ fn serve<
 >(rt: &R, alloc: Global, front: &Front<D, N, T, S>) -> Result<(), Fault> {
     let (moved, last) = move_and_flush(rt, alloc, front)?;
     front.checkpoint(rt)?;
-    say_moved(rt, moved);
+    let _ = println!(rt; "moved {moved} times by {THREADS} threads");
     say_balances(rt, &last);
     Ok(())
 }
@@ -211,36 +211,13 @@ fn settle<N: StoreNaming, D: Disk + Drop, T: Invariants + Drop, S: StoredSteps +
 
 // Prints how a transaction ended.
 fn say<R: Print>(rt: &R, settled: &Settled) {
-    match settled {
-        Settled::Committed { number, .. } => say_number(rt, "committed", *number),
-        Settled::Seen { at, .. } => say_number(rt, "seen", *at),
-        Settled::Retry => say_line(rt, "retry"),
-        Settled::Aborted(code) => say_number(rt, "aborted", u64::from(*code)),
-        Settled::Refused(name) => say_refused(rt, name),
-    }
-}
-
-fn say_refused<R: Print>(rt: &R, name: &Name) {
-    let _ = println!(rt; "refused {name}");
-}
-
-fn say_fault<R: Print>(rt: &R, fault: Fault) {
-    let _ = println!(rt; "{fault}");
-}
-
-// Prints how often the threads moved money.
-fn say_moved<R: Print>(rt: &R, moved: u64) {
-    let _ = println!(rt; "moved {moved} times by {THREADS} threads");
-}
-
-// Prints a line.
-fn say_line<R: Print>(rt: &R, line: &str) {
-    let _ = println!(rt; "{line}");
-}
-
-// Prints a word, and a number behind it.
-fn say_number<R: Print>(rt: &R, word: &str, number: u64) {
-    let _ = println!(rt; "{word} {number}");
+    let _ = match settled {
+        Settled::Committed { number, .. } => println!(rt; "committed {number}"),
+        Settled::Seen { at, .. } => println!(rt; "seen {at}"),
+        Settled::Retry => println!(rt; "retry"),
+        Settled::Aborted(code) => println!(rt; "aborted {code}"),
+        Settled::Refused(name) => println!(rt; "refused {name}"),
+    };
 }
 
 // Prints what is in the accounts.
@@ -312,35 +289,14 @@ fn move_and_flush<F: Moving + Sync, R: Clock + Threads + Wait + Sync>(
         let Ok(flusher) = scope.spawn(move || store.flush(rt)) else {
             return Err(Fault::Memory);
         };
-        let done = move_and_close(rt, alloc, store);
-        outcome(done, flusher.join(rt))
+        let moved = move_all(rt, alloc, store);
+        let last = store.audit(rt);
+        let closed = store.end(rt);
+        let flushed = flusher.join(rt);
+        closed?;
+        flushed?;
+        Ok((moved?, last?))
     })
-}
-
-// How often money was moved, what the accounts have then, and how the store was closed.
-type Done = (
-    Result<u64, Fault>,
-    Result<Vec<i64>, Fault>,
-    Result<(), Fault>,
-);
-
-// The threads move money. Then all accounts are read, and the store is closed.
-fn move_and_close<F: Moving + Sync, R: Threads + Wait + Sync>(
-    rt: &R,
-    alloc: Global,
-    store: &F,
-) -> Done {
-    let moved = move_all(rt, alloc, store);
-    let last = store.audit(rt);
-    (moved, last, store.end(rt))
-}
-
-// What came of it, if nothing was refused. A refusal of the close comes before one of the flusher, and both before the others.
-fn outcome(done: Done, flushed: Result<(), Fault>) -> Result<(u64, Vec<i64>), Fault> {
-    let (moved, last, closed) = done;
-    closed?;
-    flushed?;
-    Ok((moved?, last?))
 }
 
 // Each of the threads pays from one account to the next one.
