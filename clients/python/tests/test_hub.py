@@ -396,7 +396,7 @@ class NeverReads(HubCase):
 
 
 class ReadsSlowly(HubCase):
-    options = ["--patience", "1.5"]
+    options = ["--patience", "2.5"]
     shape = {"vars": 1024, "slots": 2, "invariants": []}
 
     def test_a_client_that_reads_slowly_is_not_dropped(self):
