@@ -167,7 +167,7 @@ pub(super) enum Wrong {
         line: usize,
         answer: Answer,
     },
-    /// The others did not end in time.
+    /// The others did not begin in time, or did not end.
     Late,
     /// The device was called while it was taken out.
     Called,
@@ -183,6 +183,17 @@ const LAST: usize = 3;
 const EIGHT: usize = 8;
 
 const CROWD: usize = 64;
+
+// Whether a part does anything.
+fn has_part(lines: &[Line], part: Part) -> bool {
+    lines.iter().any(|line| line.row(part).is_some())
+}
+
+// How many threads begin with a pass of their own.
+fn beginners_of(lines: &[Line]) -> u64 {
+    let begins = |thread: &usize| has_part(lines, Part::Thread(*thread));
+    (0..EIGHT).filter(begins).count() as u64
+}
 
 // How many threads a scene has.
 fn threads_of(lines: &[Line]) -> usize {
@@ -226,13 +237,14 @@ impl<D: Disk + Drop, N: StoreNaming, T: Invariants + Drop, S: StoredSteps + Drop
 > {
     // Plays a part with hands of its own, if it does anything.
     fn play_alone<R: Clock + Wait>(&self, stage: &Stage<R>, part: Part) -> Option<Wrong> {
-        if stage.lines.iter().all(|line| line.row(part).is_none()) {
+        if !has_part(stage.lines, part) {
             return None;
         }
         self.play_from(stage, &mut Hands::new(), part)
     }
 
-    // Takes a pass, which the crowd does not, and plays a part.
+    // Takes a pass, which the crowd does not, and plays a part once the others have theirs too: what the first of them does at once could
+    // leave none.
     fn play_from<R: Clock + Wait>(
         &self,
         stage: &Stage<R>,
@@ -240,8 +252,14 @@ impl<D: Disk + Drop, N: StoreNaming, T: Invariants + Drop, S: StoredSteps + Drop
         part: Part,
     ) -> Option<Wrong> {
         if part != Part::Crowd {
-            if let Err(fault) = self.take_pass(stage, &mut hands.pass) {
+            let taken = self.take_pass(stage, &mut hands.pass);
+            let beginners = beginners_of(stage.lines);
+            let is_in_time = stage.signals.begin_together(stage.rt, beginners);
+            if let Err(fault) = taken {
                 return Some(Wrong::NotBegun(fault));
+            }
+            if !is_in_time {
+                return Some(Wrong::Late);
             }
         }
         self.play_lines(stage, hands, part)
@@ -448,7 +466,7 @@ fn is_played(lines: &[Line]) -> bool {
     ];
     parts
         .iter()
-        .any(|part| lines.iter().any(|line| line.row(*part).is_some()))
+        .any(|part| has_part(lines, *part))
 }
 
 /// Plays the scenes of a table, each in a new store. Fails with what went wrong first.

@@ -26,6 +26,7 @@ pub(super) struct Signals {
     adds: AtomicU64,
     needs: AtomicU64,
     full_turns: AtomicU64,
+    begun: AtomicU64,
     ended: AtomicU64,
     calls: AtomicU64,
 }
@@ -42,6 +43,7 @@ impl Signals {
             adds: AtomicU64::new(0),
             needs: AtomicU64::new(0),
             full_turns: AtomicU64::new(0),
+            begun: AtomicU64::new(0),
             ended: AtomicU64::new(0),
             calls: AtomicU64::new(0),
         }
@@ -143,6 +145,12 @@ impl Signals {
     /// How often the device was called.
     pub(super) fn calls(&self) -> u64 {
         self.calls.load(Ordering::SeqCst)
+    }
+
+    /// Counts that a thread has its pass, and waits until so many have theirs. Answers whether that came in time.
+    pub(super) fn begin_together<R: Clock>(&self, rt: &R, threads: u64) -> bool {
+        self.begun.fetch_add(1, Ordering::SeqCst);
+        has_come_in_time(rt, &self.begun, threads)
     }
 
     /// Counts that a thread has played its lines.
