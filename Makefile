@@ -18,11 +18,11 @@ $(UNPROVED): .ci/unproved crates.txt $(shell find crates -name '*.rt')
 build:
 	cd crates/tmem && rt run -- --version
 
-# Proves and tests everything, tries the mutants of must-fail, and runs what the documents show.
+# Proves and tests everything, tries eleven mutants, and runs what the documents show.
 test:
 	.ci/test
 
-# Tries all mutants, those of must-fail, mutants and test-mutants: of the crates that CRATES names, or of all.
+# Tries all mutants, those in mutants/ and test-mutants/: of the crates that CRATES names, or of all.
 mutants:
 	.ci/mutants $(CRATES)
 

@@ -1,10 +1,10 @@
-"""Mutants, as they stand in crates/*/{must-fail,mutants,test-mutants}/*.edit: a line 'file: PATH', and then pairs of lines 'old: TEXT' and
+"""Mutants, as they stand in crates/*/{mutants,test-mutants}/*.edit: a line 'file: PATH', and then pairs of lines 'old: TEXT' and
 'new: TEXT', each TEXT one line that stands once in that file. That of a test mutant begins with a line 'fails: CRATE',
 'fails: CRATE FILE' (FILE.rt of its src/tests) or 'fails: .ci/PART', which says what has to fail."""
 import glob
 import re
 
-FOLDERS = "must-fail", "mutants", "test-mutants"
+FOLDERS = "mutants", "test-mutants"
 
 
 def read(path):
@@ -94,4 +94,8 @@ def function_at(text, at):
         words = re.sub(r"<[^<>]*>", "", re.sub(r"<[^<>]*>", "", re.sub(r"<[^<>]*>", "", above[-1][0])))
         named = re.findall(r"\w+", words.partition(" for ")[2] or words.replace("impl", "", 1).replace("pub", "").replace("trait", ""))
         holder = named[0] if named else ""
-    return holder, head[2], text.count("\n", 0, head.start()) + 1, text.count("\n", 0, end.end()) + 1
+    first = text.count("\n", 0, head.start()) + 1
+    # (a goal of the whole function stands at its first attribute)
+    while first > 1 and text.splitlines()[first - 2].lstrip().startswith("#["):
+        first -= 1
+    return holder, head[2], first, text.count("\n", 0, end.end()) + 1

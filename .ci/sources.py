@@ -53,7 +53,9 @@ def read(file):
         brace = re.compile(rf"(?m)^{head[1]}\{{| \{{$").search(source, head.start())
         found = brace and function_at(source, brace.start())
         if found:
-            functions[file, *found[:2]] = "\n".join(source.splitlines()[found[2] - 1 : found[3]]).lstrip()
+            its = "\n".join(source.splitlines()[found[2] - 1 : found[3]])
+            # (without its attributes)
+            functions[file, *found[:2]] = re.sub(r"\A(\s*#\[.*\n)*\s*", "", its)
             named.setdefault(found[1], set()).add((file, *found[:2]))
 
 

@@ -57,7 +57,7 @@ fn tell_bytes<E: Write>(err: &mut E, asked: Asked, path: &str, refusal: Refusal)
         is_of_no_store: refusal.is_of_no_store(),
         is_shown: matches!(asked, Asked::Show(_)),
     };
-    tell(err, format_args!("{path}: {refusal}: {help}"))
+    tell_because(err, path, refusal, help)
 }
 
 // Whether transactions are made durable in a file.
@@ -95,7 +95,7 @@ fn explain_failure<E: Write>(
 fn tell_empty<E: Write>(asked: Asked, err: &mut E) -> io::Result<()> {
     match asked {
         Asked::Run(paths) => match paths.script {
-            Some(path) => tell(err, format_args!("{path}: {EMPTY_FILE}")),
+            Some(path) => tell_path(err, path, EMPTY_FILE),
             None => tell(err, EMPTY_INPUT),
         },
         _ => tell(err, EMPTY_FILE),
@@ -324,8 +324,8 @@ fn tell_no_store<E: Write>(
                 "{path}: {NO_STORE}; check the path; move this away, or name another path; {BEFORE_A_COPY}"
             ),
         ),
-        DeviceCause::Call(cause) => tell(err, format_args!("{path}: {UNSEEN}: {cause}")),
-        cause => tell(err, format_args!("{path}: {NO_STORE}: {cause}")),
+        DeviceCause::Call(cause) => tell_because(err, path, UNSEEN, cause),
+        cause => tell_because(err, path, NO_STORE, cause),
     }
 }
 
@@ -371,11 +371,11 @@ fn tell_of_shape<E: Write>(
     of_store: &str,
 ) -> io::Result<()> {
     if begins_as_store(rt, path) {
-        return tell(err, format_args!("{path}: {of_store}"));
+        return tell_path(err, path, of_store);
     }
     match flaw_of_text(rt, path) {
         Some(flaw) => tell(err, format_args!("{path}: {flaw}; {NO_SHAPE}")),
-        None => tell(err, format_args!("{path}: {NO_SHAPE}")),
+        None => tell_path(err, path, NO_SHAPE),
     }
 }
 
@@ -659,10 +659,10 @@ fn explain_entries<E: Write>(
         explain_entry(rt, asked, path, notes.text(), refused, err)?;
     }
     if let (Some(path), [_, ..]) = (path, notes.refused()) {
-        tell(err, format_args!("{path}: {PLAYED}"))?;
+        tell_path(err, path, PLAYED)?;
     }
     match (path, notes.lost()) {
-        (Some(path), Some(lost)) => tell(err, format_args!("{path}: {lost}")),
+        (Some(path), Some(lost)) => tell_path(err, path, lost),
         (_, _) => Ok(()),
     }
 }
@@ -746,18 +746,33 @@ fn tell_store_cause<E: Write>(err: &mut E, path: &str, cause: DeviceCause) -> io
 fn tell_cause<E: Write>(err: &mut E, path: &str, cause: DeviceCause) -> io::Result<()> {
     match cause {
         DeviceCause::Empty => tell(err, cause),
-        _ => tell(err, format_args!("{path}: {cause}")),
+        _ => tell_path(err, path, cause),
     }
 }
 
 // Tells something of the store's file, or of none.
 fn tell_of<E: Write, T: Display + Drop>(err: &mut E, asked: Asked, text: T) -> io::Result<()> {
     match store_of(asked) {
-        Some((path, _)) => tell(err, format_args!("{path}: {text}")),
+        Some((path, _)) => tell_path(err, path, text),
         None => tell(err, text),
     }
 }
 
 fn tell<E: Write, T: Display + Drop>(err: &mut E, text: T) -> io::Result<()> {
     writeln!(err, "tmem: {text}")
+}
+
+// Tells something of a path.
+fn tell_path<E: Write, T: Display + Drop>(err: &mut E, path: &str, text: T) -> io::Result<()> {
+    writeln!(err, "tmem: {path}: {text}")
+}
+
+// Tells something of a path, and why it is so.
+fn tell_because<E: Write, T: Display + Drop, C: Display + Drop>(
+    err: &mut E,
+    path: &str,
+    text: T,
+    why: C,
+) -> io::Result<()> {
+    writeln!(err, "tmem: {path}: {text}: {why}")
 }

@@ -1,6 +1,8 @@
 -- What a command line was read as.
-use Rattle.std.proofs.Common.{◌≡◌, ◌||◌, false, List, [], Option, Some, None, option_map, option_and_then, codes, refl, sym, ap, ◌∙◌}
+use Rattle.std.proofs.Common.{◌≡◌, ◌≢◌, ◌||◌, ◌∷◌, inl, inr, false, List, [], Option, Some, None, option_map, option_and_then, codes, refl, sym, ap, ◌∙◌}
 use Rattle.std.specs.Prelude.{Box}
+use Rattle.clap.specs.declared.error.kind.ErrorKind.{ErrorKind}
+use Rattle.clap.specs.Kinds.{Kinds}
 use Rattle.clap.specs.Matches.{subcommand_name_of}
 use Rattle.clap.specs.Walk.{Row, Rule, Text, rule_of}
 use Rattle.clap.specs.Built.{AddsArg, AddsSubcommand}
@@ -12,7 +14,7 @@ use Rattle.std.specs.Box.{box_value}
 use Rattle.clap.specs.declared.parser.matches.SubCommand.{SubCommand}
 use Rattle.clap.specs.declared.parser.matches.ArgMatches.{ArgMatches}
 use Rattle.clap.specs.declared.parser.matches.ArgMatches.TheViews.{out-ArgMatches, out-SubCommand}
-use Rattle.tmem_args.specs.CommandLine.{NamesNoOther, command_in, command_line}
+use Rattle.tmem_args.specs.CommandLine.{HasRequest, IsHelpOrVersion, NamesNoOther, command_in, command_line}
 
 -- a command with one more subcommand, which has none itself
 pub joined : (old sub new : Command) (before : App) (s : Shape) → AddsSubcommand old sub new → (fields_of sub).has_globals ≡ false → app_of old ≡ before
@@ -61,3 +63,11 @@ module _ (matches : ArgMatches) (words : List Text) (same : subcommand_rows_of m
   pub given : {A : Type 0} (f : List Row → Option A) (rows : Option (List Row)) → rows ≡ option_map (λ p. p.1) (subcommand_rows_of matches)
       → option_and_then f rows ≡ option_and_then (λ p. f p.1) (subcommand_of command_line words)
   given f rows is = ap (option_and_then f) (is ∙ ap (option_map (λ p. p.1)) same) ∙ of_rows f (subcommand_of command_line words)
+
+-- words of `run` name no other subcommand
+pub names_only_run : (words : List Text) → command_in words ≡ Some (codes "run") → NamesNoOther words
+names_only_run words is = record { threads = λ e. cc; bench = λ e. cc; show = λ e. cc; init = λ e. cc; serve = λ e. cc; check = λ e. cc }
+
+-- one thing that is wrong is no request
+pub refused : (found : Kinds) (why : ErrorKind) → found ≡ why ∷ [] → (IsHelpOrVersion why → ⊥) → (found ≢ []) × (¬ HasRequest found)
+refused found why is other = (λ e. cc, λ asks. elim (rw is at asks) [ inl e ↦ other e | inr e ↦ e ])

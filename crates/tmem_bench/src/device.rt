@@ -114,7 +114,7 @@ fn sync_on<D: Disk + Drop, R: Clock>(
     Ok(had)
 }
 
-// Writes a batch, and then a byte, as a flush does, until so much time is over.
+// Writes and syncs as a flush does, until so much time is over.
 fn sync_until<D: Disk, R: Clock>(
     rt: &R,
     disk: &mut D,
@@ -125,16 +125,24 @@ fn sync_until<D: Disk, R: Clock>(
     requires { SYNCED_BYTES ≤ (D.view disk.old).capacity }
     ensures { had.new.work ≡ had.old.work }
 {
-    let batch = [1; SYNCED_BYTES];
     for _ in 0..u64::MAX {
-        put(disk, &batch)?;
-        put(disk, &batch[..1])?;
+        put_twice(disk)?;
         had.operations = had.operations.saturating_add(1);
         if since(rt, start)? >= time {
             break;
         }
     }
     Ok(())
+}
+
+// Writes a batch, and then a byte.
+fn put_twice<D: Disk>(disk: &mut D) -> Result<(), Fault>
+    requires { SYNCED_BYTES ≤ (D.view disk.old).capacity }
+    ensures { (D.view disk.new).capacity ≡ (D.view disk.old).capacity }
+{
+    let batch = [1; SYNCED_BYTES];
+    put(disk, &batch)?;
+    put(disk, &batch[..1])
 }
 
 // Writes at the start of a device, and syncs.

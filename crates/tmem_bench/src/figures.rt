@@ -133,6 +133,6 @@ fn write_baseline<W: fmt::Write>(
             let ratio = had.rate() / other.rate();
             write!(f, "{:>12.0}{ratio:>8.2}", other.rate())
         }
-        None => write!(f, "{:>12}{:>8}", "-", "-"),
+        None => f.write_str("           -       -"),
     }
 }

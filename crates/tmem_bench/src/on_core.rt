@@ -96,13 +96,20 @@ fn new_core<T: Invariants + Drop>(alloc: Global, vars: u16, table: T) -> Result<
     ensures sized { IfOk result (λ core. length (core_state core).values ≡ vars) }
     ensures registered { IfOk result (λ core. length (core_state core).names ≡ 1) }
 {
-    let mut names = NameSet::new(alloc)?;
-    names.push(&Name::new(SOLVENT)?);
-    let values = vec![in alloc; DEPOSIT; vars as usize]?;
-    match Core::new(alloc, &State::of(0, names, values), table) {
+    match Core::new(alloc, &state_over(alloc, vars)?, table) {
         Ok(core) => Ok(core),
         Err((fault, _table)) => Err(fault),
     }
+}
+
+// The state of such a core.
+fn state_over(alloc: Global, vars: u16) -> Result<State, Fault>
+    ensures sized { IfOk result (λ state. length state.values ≡ vars) }
+    ensures registered { IfOk result (λ state. length state.names ≡ 1) }
+{
+    let mut names = NameSet::new(alloc)?;
+    names.push(&Name::new(SOLVENT)?);
+    Ok(State::of(0, names, vec![in alloc; DEPOSIT; vars as usize]?))
 }
 
 // Settles it a number of times, and notes all of that as durable.

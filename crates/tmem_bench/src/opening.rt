@@ -13,7 +13,7 @@ use std::fs::{self, File, Files};
 use std::rt::Clock;
 use std::sync::Wait;
 use std::thread::Threads;
-use std::time::Duration;
+use std::time::{Duration, Instant};
 use tmem_fault::Fault;
 use tmem_file::FileDisk;
 use tmem_journal::{Layout, format};
@@ -35,15 +35,28 @@ pub fn open_again<R: Clock + Files<File = File> + AllocGlobal + Threads + Wait +
 // Fills the log of a new file, and then opens it and reads it, again and again.
 fn fill_and_open<R: Clock + Files<File = File> + AllocGlobal + Threads + Wait + Sync>(
     rt: &R,
-    disk: FileDisk,
+    mut disk: FileDisk,
     path: &str,
     time: Duration,
 ) -> Result<(Figures, Figures), BenchError>
     ensures opened { IfOk result (λ had. had.0.work ≡ Open) }
     ensures read { IfOk result (λ had. had.1.work ≡ ReadTwice) }
 {
-    fill(rt, disk)?;
-    let start = now(rt)?;
+    format(&mut disk, MANY, SLOTS)?;
+    with_bank(rt, MANY, On::Store(disk, StoreUse::Fill))?;
+    open_until(rt, path, now(rt)?, time)
+}
+
+// Opens a store and reads its file, again and again, until so much time is over.
+fn open_until<R: Clock + Files<File = File> + AllocGlobal + Threads + Wait + Sync>(
+    rt: &R,
+    path: &str,
+    start: Instant,
+    time: Duration,
+) -> Result<(Figures, Figures), BenchError>
+    ensures opened { IfOk result (λ had. had.0.work ≡ Open) }
+    ensures read { IfOk result (λ had. had.1.work ≡ ReadTwice) }
+{
     let (mut opened, mut read) = (Figures::zero(Work::Open), Figures::zero(Work::ReadTwice));
     for _ in 0..u64::MAX {
         if is_over(rt, start, time) {
@@ -53,16 +66,6 @@ fn fill_and_open<R: Clock + Files<File = File> + AllocGlobal + Threads + Wait + 
         read = read.with(read_twice(rt, path)?);
     }
     Ok((opened, read))
-}
-
-// Fills the log of a new file.
-fn fill<R: Clock + AllocGlobal + Threads + Wait + Sync>(
-    rt: &R,
-    mut disk: FileDisk,
-) -> Result<(), BenchError> {
-    format(&mut disk, MANY, SLOTS)?;
-    with_bank(rt, MANY, On::Store(disk, StoreUse::Fill))?;
-    Ok(())
 }
 
 // Opens a store, and drops it.

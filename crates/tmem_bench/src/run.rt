@@ -13,7 +13,7 @@ use crate::figures::{Figures, Line};
 use crate::jobs::{Act, Callers, JOBS, Job, LOOSE_JOBS, SLOTS, VARS};
 use crate::opening::open_again;
 use crate::store::{On, StoreUse, with_bank};
-use std::alloc::AllocGlobal;
+use std::alloc::{AllocGlobal, Global};
 use std::fs::{File, Files};
 use std::io::Write;
 use std::rt::Clock;
@@ -126,6 +126,11 @@ fn line_at<R: Clock + Files<File = File> + AllocGlobal + Threads + Wait + Sync>(
     }
 }
 
+// The text of a line.
+fn text_of(alloc: Global, line: Line) -> Result<String, BenchError> {
+    Ok(format!(in alloc; "{line}")?)
+}
+
 // Transactions on the core.
 fn line_of_core<R: Clock + AllocGlobal + Threads + Wait + Sync>(
     rt: &R,
@@ -139,7 +144,7 @@ fn line_of_core<R: Clock + AllocGlobal + Threads + Wait + Sync>(
         had: run_on_core_alone(rt, Job { act, callers, time })?,
         baseline: None,
     };
-    Ok(format!(in rt.alloc(); "{line}")?)
+    text_of(rt.alloc(), line)
 }
 
 // Runs a job on a new core.
@@ -166,7 +171,7 @@ fn line_of_job<R: Clock + Files<File = File> + AllocGlobal + Threads + Wait + Sy
         had,
         baseline,
     };
-    Ok(format!(in rt.alloc(); "{line}")?)
+    text_of(rt.alloc(), line)
 }
 
 // Runs a job on a new device. One that makes a file durable runs between two loops of syncs, each for so long, with which it is compared.
@@ -180,15 +185,28 @@ fn run_beside_syncs<R: Clock + Files<File = File> + AllocGlobal + Threads + Wait
     ensures compared { medium.entry ≢ Memory → job.act ≢ Look → IfOk result (λ told. IsSomeAnd told.1 (λ other. other.work ≡ SyncTwice)) }
     ensures alone { (medium.entry ≡ Memory) ⊎ (job.act ≡ Look) → IfOk result (λ told. told.1 ≡ None) }
 {
-    let (had, baseline) = if medium.is_file() && job.act != Act::Look {
-        let before = two_syncs(rt, medium, sync_time)?;
-        let had = run(rt, medium, job)?;
-        let after = two_syncs(rt, medium, sync_time)?;
-        (had, Some(before.with(after)))
+    if medium.is_file() && job.act != Act::Look {
+        let (had, baseline) = run_between_syncs(rt, medium, job, sync_time)?;
+        Ok((had, Some(baseline)))
     } else {
-        (run(rt, medium, job)?, None)
-    };
-    Ok((had, baseline))
+        Ok((run(rt, medium, job)?, None))
+    }
+}
+
+// Runs a job on a new device, between two loops of syncs.
+fn run_between_syncs<R: Clock + Files<File = File> + AllocGlobal + Threads + Wait + Sync>(
+    rt: &R,
+    medium: Medium<'_>,
+    job: Job,
+    sync_time: Duration,
+) -> Result<(Figures, Figures), BenchError>
+    ensures work { IfOk result (λ told. told.0.work ≡ OnStore job.act) }
+    ensures compared { IfOk result (λ told. told.1.work ≡ SyncTwice) }
+{
+    let before = two_syncs(rt, medium, sync_time)?;
+    let had = run(rt, medium, job)?;
+    let after = two_syncs(rt, medium, sync_time)?;
+    Ok((had, before.with(after)))
 }
 
 // Runs a job on a new device.
@@ -235,5 +253,5 @@ fn line_of_openings<R: Clock + Files<File = File> + AllocGlobal + Threads + Wait
         had,
         baseline: Some(baseline),
     };
-    Ok(format!(in rt.alloc(); "{line}")?)
+    text_of(rt.alloc(), line)
 }

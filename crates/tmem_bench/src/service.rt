@@ -83,7 +83,11 @@ pub trait SharedStore {
 impl<D: Disk + Drop, N: StoreNaming, T: Invariants + Drop, S: StoredSteps + Drop> SharedStore
     for Front<D, N, T, S> {
     fn prepare<R: Wait>(&self, rt: &R, alloc: Global) -> Result<(), Fault> {
-        deposit(rt, alloc, self)?;
+        let tx = deposits(alloc)?;
+        let mut pass = self.acquire_pass(rt)?;
+        let settled = settle_once(rt, self, &mut pass, tx);
+        self.release_pass(rt, pass)?;
+        settled?;
         self.flush_once(rt)?;
         Ok(())
     }
@@ -126,19 +130,6 @@ impl<D: Disk + Drop, N: StoreNaming, T: Invariants + Drop, S: StoredSteps + Drop
         self.release_pass(rt, pass)?;
         filled
     }
-}
-
-// Puts something into the accounts, and registers the invariant.
-fn deposit<D: Disk + Drop, N: StoreNaming, T: Invariants + Drop, S: StoredSteps + Drop, R: Wait>(
-    rt: &R,
-    alloc: Global,
-    front: &Front<D, N, T, S>,
-) -> Result<(), Fault> {
-    let tx = deposits(alloc)?;
-    let mut pass = front.acquire_pass(rt)?;
-    let settled = settle_once(rt, front, &mut pass, tx);
-    front.release_pass(rt, pass)?;
-    settled
 }
 
 // Fills the log: each batch with as many transactions as it takes.

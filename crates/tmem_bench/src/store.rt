@@ -1,8 +1,9 @@
 // A store for the jobs, with what its closures mean.
-ghost use Rattle.std.specs.Prelude.{◌≡◌, length, IfOk};
+ghost use Rattle.std.specs.Prelude.{◌≡◌, codes, length, IfOk};
 ghost use Rattle.std.specs.List.{list_any};
 ghost use Rattle.tmem_front.specs.Held.{front_found, spine_of, front_steps, front_table};
 ghost use Rattle.tmem_builtins.specs.Invariants.{has_no_negative, is_negative};
+ghost use Rattle.tmem_invariants.specs.Answers.{MayCall, HasMeaning};
 ghost use Rattle.tmem_bench.specs.Accounts.{bench_bank, variables_in, variables_on};
 ghost use Rattle.tmem_bench.specs.Works.{work_in, work_on};
 
@@ -21,7 +22,7 @@ use tmem_disk::Disk;
 use tmem_fault::Name;
 use tmem_front::{Front, OpenedFront, StoreNaming};
 use tmem_invariants::Invariants;
-use tmem_tables::{Invariant, Table};
+use tmem_tables::{Invariant, Table, Test};
 use tmem_tree::StoredSteps;
 
 /// What is done with a store once it is open.
@@ -72,14 +73,25 @@ pub fn with_bank<D: Disk + Drop + Send, R: Clock + AllocGlobal + Threads + Wait 
             ensures { result ≡ has_no_negative accounts.now }
         { !has_negative(accounts) },
     )?;
-    let variables = Vec::from_slice(alloc, on.footprint())?;
-    let solvent = Invariant::new(Name::new(SOLVENT)?, variables, solvent)?;
+    let solvent = invariant_over(alloc, on.footprint(), solvent)?;
     let table = Table::of(alloc, vec![in alloc; solvent]?, vars)?;
     let steps = stored_steps();
     match on {
         On::Core(job) => run_on_core(rt, alloc, vars, job, table, &steps),
         On::Store(disk, task) => open(rt, vars, disk, task, table, steps),
     }
+}
+
+// The invariant over these variables.
+fn invariant_over(alloc: Global, variables: &[u16], solvent: Test) -> Result<Invariant, BenchError>
+    requires callable { MayCall (Test.pre solvent) (length variables.now) }
+    requires stated { HasMeaning (Test.post solvent) (length variables.now) }
+    ensures name { IfOk result (λ invariant. invariant.name ≡ codes "solvent") }
+    ensures footprint { IfOk result (λ invariant. invariant.footprint.items ≡ variables.now) }
+    ensures test { IfOk result (λ invariant. invariant.test ≡ solvent) }
+{
+    let footprint = Vec::from_slice(alloc, variables)?;
+    Ok(Invariant::new(Name::new(SOLVENT)?, footprint, solvent)?)
 }
 
 // Whether an account is below zero.

@@ -1,19 +1,17 @@
--- What `init` makes of the shape of a store, and how `serve` serves that.
-use Rattle.std.specs.Prelude.{ℕ, All, true, List, [], ◌∷◌, Option, map, filter}
+-- How `serve` serves a store of a shape.
+use Rattle.std.specs.Prelude.{ℕ, true, List, [], ◌∷◌, Option, map}
 use Rattle.std.specs.Io.KnownBytes.{IsAtEnd}
-use Rattle.tmem_disk.specs.Disk.{DeviceView}
 use Rattle.tmem_core.specs.Program.{Program}
 use Rattle.tmem_invariants.specs.Meanings.{Meanings}
 use Rattle.tmem_invariants.specs.Chosen.{meaning_also}
 use Rattle.tmem_linear.specs.Sums.{is_sum_within}
 use Rattle.tmem_linear.specs.declared.linear.Linear.{Linear}
 use Rattle.tmem_builtins.specs.Builtins.{builtin_steps}
-use Rattle.tmem_shape.specs.Shapes.{CanHold, IsShapeText}
+use Rattle.tmem_shape.specs.Shapes.{IsShapeText}
 use Rattle.tmem_shape.specs.declared.shape.StoreShape.{StoreShape}
 use Rattle.tmem_file.specs.FileView.{file_view}
 use Rattle.tmem_file.specs.Opening.{IsFreshlyOpened}
 use Rattle.tmem_file.specs.declared.disk.FileDisk.{FileDisk}
-use Rattle.tmem_init.specs.Content.{IsNewStore}
 use Rattle.tmem_serve.specs.Stores.{OpensAndServes}
 use Rattle.tmem_serve.specs.declared.error.ServeError.{ServeError}
 use Rattle.tmem_serve.specs.declared.error.ServeError.TheVariants as error
@@ -21,13 +19,11 @@ use Rattle.tmem_desk.specs.declared.failure.DeskFailure.TheVariants as desk
 use Rattle.tmem_advice.specs.declared.failure.StoreFailure.{StoreFailure}
 use Rattle.tmem_advice.specs.declared.failure.StoreFailure.TheVariants as store
 use Rattle.tmem_run.specs.Builtin.{builtin_arities}
+use Rattle.tmem_commands.specs.Made.{always_in}
 
--- the names of invariants, and of those of them that always hold
+-- the names of invariants
 abbrev pub names_in : List Linear → List (List ℕ)
 names_in all = map (λ linear. linear.name) all
-
-abbrev pub always_in : List Linear → List (List ℕ)
-always_in all = map (λ linear. linear.name) (filter (λ linear. linear.always) all)
 
 -- what their names mean: that the sum is within the bounds
 abbrev pub meanings_of : List Linear → Meanings
@@ -37,18 +33,6 @@ meanings_of (linear ∷ others) = meaning_also linear.name linear.footprint.item
 -- what they and the builtin steps bring to a store
 abbrev pub program_of : List Linear → Program
 program_of all = record { steps = builtin_steps; names = names_in all; tests = meanings_of all }
-
--- The text is that of a shape, each of whose invariants some sum keeps, and a store of it is on this device: an opening finds that every
--- variable is 0, and that the invariants are registered that always hold, and no others.
-pub record IsStoreOf (text : List ℕ) (d : DeviceView) : Type 0 where
-  pub shape : StoreShape
-  pub is : IsShapeText shape text
-  pub hold : All CanHold shape.invariants.items
-  pub made : IsNewStore shape.vars shape.slots (always_in shape.invariants.items) d
-
--- a store was made of the shape of a text
-abbrev pub MakesStore : Type 0
-MakesStore = (text : List ℕ) × (made : FileDisk) × IsStoreOf text (file_view made)
 
 -- The text is that of a shape, and what the opening of a file found under it was served to the end of the input, of which no byte is left.
 pub record ServesShape (text : List ℕ) (unread rest before after : Option (List ℕ)) : Type 0 where

@@ -4,15 +4,16 @@ ghost use Rattle.std.specs.Io.KnownBytes.{IsAtEnd};
 ghost use Rattle.tmem_file.specs.FileView.{file_view};
 ghost use Rattle.tmem_serve.specs.Stores.{OpensAndServes};
 ghost use Rattle.tmem_run.specs.Builtin.{builtin_arities};
-ghost use Rattle.tmem_cli.specs.Shaped.{ServesShape, ServesAnyShape, always_in, program_of, store_failure_of};
+ghost use Rattle.tmem_commands.specs.Made.{always_in};
+ghost use Rattle.tmem_cli.specs.Shaped.{ServesShape, ServesAnyShape, program_of, store_failure_of};
 
-use crate::init::text_in;
 use std::fs::{File, Files};
 use std::io::{Read, Write};
 use std::sync::Wait;
 use tmem_advice::StoreFailure;
 use tmem_args::Serving;
 use tmem_builtins::stored_steps;
+use tmem_commands::text_in;
 use tmem_desk::DeskFailure;
 use tmem_file::FileDisk;
 use tmem_linear::LinearTable;

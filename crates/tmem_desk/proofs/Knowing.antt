@@ -17,7 +17,7 @@ use Rattle.tmem_tree.specs.declared.settled.Settled.{Settled}
 use Rattle.tmem_tree.specs.declared.settled.Settled.TheVariants.{Retry}
 use Rattle.tmem_tentative.specs.Right.{IsRight}
 use Rattle.tmem_tentative.specs.declared.attempt.Attempt.{Attempt}
-use Rattle.tmem_front.specs.Settling.{SettlesPass, KnowsMore}
+use Rattle.tmem_seats.specs.Settling.{SettlesPass, KnowsMore}
 use Rattle.tmem_requests.specs.declared.answer.Answer.{Answer}
 use Rattle.tmem_requests.specs.declared.answer.Answer.TheVariants as answer
 use Rattle.tmem_requests.specs.declared.request.RequestBody.{RequestBody}

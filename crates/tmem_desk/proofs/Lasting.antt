@@ -25,7 +25,7 @@ use Rattle.tmem_core.specs.Program.{Program}
 use Rattle.tmem_core.specs.Verdict.{committed, first_broken}
 use Rattle.tmem_core.specs.SettleAnswer.{is_stale, sound_answer, unless_refused, ending_answer, settle_answer, committed_by}
 use Rattle.tmem_seats.specs.Histories.{state_after_history, marked}
-use Rattle.tmem_front.specs.Settling.{SettlesPass, KnowsMore, SeesMore, IsNumberedWithin}
+use Rattle.tmem_seats.specs.Settling.{SettlesPass, KnowsMore, SeesMore, IsNumberedWithin}
 use Rattle.tmem_requests.specs.declared.answer.Answer.{Answer}
 use Rattle.tmem_requests.specs.declared.answer.Answer.TheVariants as answer
 use Rattle.tmem_requests.specs.declared.request.RequestBody.{RequestBody}

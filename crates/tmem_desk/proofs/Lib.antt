@@ -1,3 +1,4 @@
+pub mod Laws
 mod Answering
 mod Counted
 mod Ends
@@ -7,8 +8,6 @@ mod Knowing
 mod Lasting
 mod Lists
 mod Losing
-mod Seen
-mod Settled
 mod Sight
 mod StepLaws
 mod Taking

@@ -11,7 +11,7 @@ use Rattle.tmem_fault.specs.declared.fault.Fault.{Fault}
 use Rattle.tmem_fault.specs.declared.fault.Fault.TheVariants.{Memory}
 use Rattle.tmem_lines.specs.Lines.{line, IsLine, IsLongLine, IsUnbroken, HoldsRestOf, IsCutOff}
 use Rattle.tmem_lines.specs.Views.{LinesView}
-use Rattle.tmem_front.specs.Settling.{SeesMore}
+use Rattle.tmem_seats.specs.Settling.{SeesMore}
 use Rattle.tmem_spine.specs.History.{count}
 use Rattle.tmem_spine.specs.Views.{PassRoleView}
 use Rattle.tmem_requests.specs.declared.answer.Answer.TheVariants as answer

@@ -4,7 +4,7 @@ use Rattle.tmem_effect.specs.Prefix.{IsPrefix}
 use Rattle.tmem_effect.proofs.Laws.{IsPrefix-self, IsPrefix-trans}
 use Rattle.tmem_spine.specs.declared.view.Entry.{Entry}
 use Rattle.tmem_spine.specs.Views.{PassRoleView}
-use Rattle.tmem_front.specs.Settling.{KnowsMore, SeesMore}
+use Rattle.tmem_seats.specs.Settling.{KnowsMore, SeesMore}
 
 pub sees_the_same : (v : PassRoleView) → SeesMore v v
 sees_the_same v = record { pass = refl; seen = IsPrefix-self v.seen; known = IsPrefix-self v.known }

@@ -5,8 +5,8 @@ use Rattle.tmem_core.specs.Program.{Program}
 use Rattle.tmem_fault.specs.declared.fault.Cause.{Cause}
 use Rattle.tmem_fault.specs.declared.fault.Fault.{Fault}
 use Rattle.tmem_fault.specs.declared.fault.Fault.TheVariants as fault
-use Rattle.tmem_front.specs.Refusing.{IsFalseOn, AreEndValues}
-use Rattle.tmem_front.specs.Settling.{SettlesPass, SettlesAtLast, KnowsMore, SeesMore}
+use Rattle.tmem_seats.specs.Refusing.{IsFalseOn, AreEndValues}
+use Rattle.tmem_seats.specs.Settling.{SettlesPass, SettlesAtLast, KnowsMore, SeesMore}
 use Rattle.tmem_effect.specs.Names.{has_name}
 use Rattle.tmem_effect.specs.State.{State}
 use Rattle.tmem_seats.specs.Histories.{state_after_history}

@@ -1,6 +1,6 @@
 -- That what is told is durable.
 use Rattle.std.specs.Prelude.{ℕ, ◌≤◌, Ok}
-use Rattle.tmem_front.specs.Settling.{IsNumberedWithin}
+use Rattle.tmem_seats.specs.Settling.{IsNumberedWithin}
 use Rattle.tmem_requests.specs.declared.answer.Answer.{Answer}
 use Rattle.tmem_requests.specs.declared.answer.Answer.TheVariants as answer
 use Rattle.tmem_desk.specs.declared.told.Told.{Told}

@@ -13,21 +13,18 @@ use crate::counts::AnswerCounts;
 use crate::held::{WaitCondition, WaitingRequest};
 use crate::keeping::Kept;
 use crate::naming::ServedNaming;
-use crate::service::Service;
+use crate::served::ServedStore;
 use crate::told::Told;
 use std::alloc::Global;
 use std::collections::VecDeque;
-use std::sync::Wait;
-use tmem_disk::Disk;
 use tmem_fault::Fault;
-use tmem_front::Pass;
-use tmem_invariants::Invariants;
 use tmem_lines::MAX_LINE_BYTES;
 use tmem_requests::{
     Answer, AnswerLine, NoRequest, NoRequestLine, ReadBuffer, RequestBody, RequestError,
     RequestFlaw, RequestPlace,
 };
-use tmem_tree::{StoredSteps, Tx};
+use tmem_seats::Pass;
+use tmem_tree::Tx;
 
 /// The most requests that may wait.
 pub const MOST_WAITING: usize = 1024;
@@ -52,7 +49,7 @@ pub struct Desk<N: ServedNaming> {
 }
 
 impl<N: ServedNaming> Desk<N> {
-    /// A desk that has read nothing yet, with a pass of the front that it serves.
+    /// A desk that has read nothing yet, with a pass of the store that it serves.
     pub fn new(alloc: Global, pass: Pass<N>) -> Desk<N>
         ensures { desk_view result ≡ empty_desk pass }
     {
@@ -113,9 +110,9 @@ impl<N: ServedNaming> Desk<N> {
 
 impl<N: ServedNaming> Desk<N> {
     // Takes a line, without its line break.
-    pub(crate) fn take_line<R: Wait, D: Disk + Drop, T: Invariants + Drop, S: StoredSteps + Drop>(
+    pub(crate) fn take_line<V: ServedStore<N>>(
         &mut self,
-        service: &Service<R, D, N, T, S>,
+        service: &V,
         text: &[u8],
     ) -> Result<(), Fault>
         ensures ok { OnOk result (TakesShort (store N.name.start N.opening N.program N.arities N.always) text.now (desk_view self.old) (desk_view self.new)) }
@@ -130,9 +127,9 @@ impl<N: ServedNaming> Desk<N> {
     }
 
     // Takes a line, and runs nothing.
-    pub(crate) fn pass_line_over<R, D: Disk + Drop, T: Invariants + Drop, S: StoredSteps + Drop>(
+    pub(crate) fn pass_line_over<V: ServedStore<N>>(
         &mut self,
-        service: &Service<R, D, N, T, S>,
+        service: &V,
         text: &[u8],
     ) -> Result<(), Fault>
         ensures ok { OnOk result (PassesShort (store N.name.start N.opening N.program N.arities N.always) text.now (desk_view self.old) (desk_view self.new)) }
@@ -159,9 +156,9 @@ impl<N: ServedNaming> Desk<N> {
     }
 
     // Takes a request. Where the store cannot go on, that is its answer.
-    fn take_or_fail<R: Wait, D: Disk + Drop, T: Invariants + Drop, S: StoredSteps + Drop>(
+    fn take_or_fail<V: ServedStore<N>>(
         &mut self,
-        service: &Service<R, D, N, T, S>,
+        service: &V,
         id: i64,
         ask: RequestBody,
     ) -> Result<(), Fault>
@@ -176,9 +173,9 @@ impl<N: ServedNaming> Desk<N> {
     }
 
     // Takes a request.
-    fn take<R: Wait, D: Disk + Drop, T: Invariants + Drop, S: StoredSteps + Drop>(
+    fn take<V: ServedStore<N>>(
         &mut self,
-        service: &Service<R, D, N, T, S>,
+        service: &V,
         id: i64,
         ask: RequestBody,
     ) -> Result<(), Fault>
@@ -207,7 +204,7 @@ impl<N: ServedNaming> Desk<N> {
                 self.tell(id, answer)
             }
             RequestBody::Look => {
-                let number = service.front.look(&mut self.pass);
+                let number = service.look(&mut self.pass);
                 self.tell(id, Answer::Durable(number))
             }
             RequestBody::State => {
@@ -225,12 +222,7 @@ impl<N: ServedNaming> Desk<N> {
     }
 
     // Takes a transaction that may wait.
-    fn take_do<R: Wait, D: Disk + Drop, T: Invariants + Drop, S: StoredSteps + Drop>(
-        &mut self,
-        service: &Service<R, D, N, T, S>,
-        id: i64,
-        tx: Tx,
-    ) -> Result<(), Fault>
+    fn take_do<V: ServedStore<N>>(&mut self, service: &V, id: i64, tx: Tx) -> Result<(), Fault>
         ensures ok { OnOk result (Takes (store N.name.start N.opening N.program N.arities N.always) id (Do tx) (desk_view self.old) (desk_view self.new)) }
         ensures err { IfErr result (λ f. OrMemory f (LearnsOnly (desk_view self.old) (desk_view self.new))) }
     {
@@ -241,9 +233,9 @@ impl<N: ServedNaming> Desk<N> {
     }
 
     // Takes what may wait: it is tried once.
-    pub(crate) fn take_held<R: Wait, D: Disk + Drop, T: Invariants + Drop, S: StoredSteps + Drop>(
+    pub(crate) fn take_held<V: ServedStore<N>>(
         &mut self,
-        service: &Service<R, D, N, T, S>,
+        service: &V,
         id: i64,
         held: WaitCondition<N>,
     ) -> Result<(), Fault>

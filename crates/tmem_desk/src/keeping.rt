@@ -12,14 +12,11 @@ use crate::desk::Desk;
 use crate::held::WaitCondition;
 use crate::naming::ServedNaming;
 use crate::ready::Ready;
-use crate::service::Service;
-use std::sync::Wait;
+use crate::served::ServedStore;
 use tmem_copies::{begins_with_puts, copy_of};
-use tmem_disk::Disk;
 use tmem_fault::{Fault, Name};
-use tmem_invariants::Invariants;
 use tmem_requests::{Answer, Stats};
-use tmem_tree::{StoredSteps, Tx};
+use tmem_tree::Tx;
 
 /// The most transactions that are kept.
 pub const MOST_KEPT: usize = 256;
@@ -33,9 +30,9 @@ pub(crate) struct Kept<N: ServedNaming> {
 
 impl<N: ServedNaming> Desk<N> {
     // Keeps a transaction under a word, in place of one that was kept under it.
-    pub(crate) fn keep<R, D: Disk + Drop, T: Invariants + Drop, S: StoredSteps + Drop>(
+    pub(crate) fn keep<V: ServedStore<N>>(
         &mut self,
-        service: &Service<R, D, N, T, S>,
+        service: &V,
         id: i64,
         word: Name,
         tx: Tx,
@@ -84,9 +81,9 @@ impl<N: ServedNaming> Desk<N> {
     }
 
     // Runs the transaction that is kept under a word as `do`, with these numbers for those of the `Put`s that it begins with.
-    pub(crate) fn run_kept<R: Wait, D: Disk + Drop, T: Invariants + Drop, S: StoredSteps + Drop>(
+    pub(crate) fn run_kept<V: ServedStore<N>>(
         &mut self,
-        service: &Service<R, D, N, T, S>,
+        service: &V,
         id: i64,
         word: &Name,
         numbers: &[i64],
@@ -106,9 +103,9 @@ impl<N: ServedNaming> Desk<N> {
     }
 
     // Runs a copy of a transaction that was kept, with these numbers.
-    fn run_copy<R: Wait, D: Disk + Drop, T: Invariants + Drop, S: StoredSteps + Drop>(
+    fn run_copy<V: ServedStore<N>>(
         &mut self,
-        service: &Service<R, D, N, T, S>,
+        service: &V,
         id: i64,
         copy: Tx,
         numbers: &[i64],
@@ -126,15 +123,15 @@ impl<N: ServedNaming> Desk<N> {
     }
 
     // Tells what was counted.
-    pub(crate) fn tell_stats<R: Wait, D: Disk + Drop, T: Invariants + Drop, S: StoredSteps + Drop>(
+    pub(crate) fn tell_stats<V: ServedStore<N>>(
         &mut self,
-        service: &Service<R, D, N, T, S>,
+        service: &V,
         id: i64,
     ) -> Result<(), Fault>
         ensures ok { OnOk result (Takes (store N.name.start N.opening N.program N.arities N.always) id StatsOf (desk_view self.old) (desk_view self.new)) }
         ensures err { IfErr result (λ f. f ≡ Fault.Memory) }
     {
-        let log = service.front.log(service.rt);
+        let log = service.log();
         let stats = Stats {
             committed: self.counts.committed,
             refused: self.counts.refused,

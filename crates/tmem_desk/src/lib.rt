@@ -1,9 +1,10 @@
-//! Answers the requests of a served store, in the order of their lines, over one front and one pass.
+//! Answers the requests of a served store, in the order of their lines, by one pass.
 //!
 //! `Desk::serve` takes a piece of input: it runs every whole line, tries again those that wait, makes durable all that is committed, and
 //! only then prints the answers, by one write. So nothing that a client was told is lost, whatever crashes: neither what it was told to be
 //! committed, nor what a read, a retry, an abort or a refusal rests on. `specs/Serving` says what each line is answered, and `specs/Failing`
-//! what is told where the store cannot go on.
+//! what is told where the store cannot go on. The store is a `ServedStore`: what its passes saw durable is not lost if the store keeps that
+//! through a crash, as that of `tmem_serve` does.
 #![tactic(auto)]
 
 mod counts;
@@ -11,19 +12,18 @@ mod desk;
 mod failure;
 mod held;
 mod keeping;
-mod laws;
-mod looking;
 mod naming;
-mod proposing;
+mod promises;
 mod ready;
-mod service;
+mod served;
 mod serving;
-mod settling;
 mod told;
 mod waiting;
 
 pub use desk::Desk;
 pub use failure::DeskFailure;
-pub use laws::{each_is_answered_once, nothing_told_is_lost};
+pub use held::WaitCondition;
 pub use naming::ServedNaming;
-pub use service::Service;
+pub use promises::{each_is_answered_once, nothing_told_is_lost};
+pub use ready::Ready;
+pub use served::ServedStore;

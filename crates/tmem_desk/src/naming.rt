@@ -1,6 +1,6 @@
 // The name of a store that is served.
 use std::marker::Brand;
-use tmem_front::StoreNaming;
+use tmem_seats::StoreNaming;
 
 /// Which store is served, in the types of all that belongs to it: beside what `StoreNaming` has, how many arguments its stored steps take,
 /// and the names of the invariants that always hold.

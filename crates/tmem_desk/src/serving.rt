@@ -1,7 +1,7 @@
 // A piece of input: its lines, those that wait, and then all that is told, once that is durable.
 ghost use Rattle.std.specs.Prelude.{◌≡◌, ◌≢◌, ◌++◌, ℕ, List, [], None, map, OnOk, IfOk, IfErr, IfSome, IsErr, IsNone, unwrap_or};
 ghost use Rattle.std.specs.Io.KnownBytes.{Appends};
-ghost use Rattle.tmem_front.specs.Settling.{SeesMore};
+ghost use Rattle.tmem_seats.specs.Settling.{SeesMore};
 ghost use Rattle.tmem_spine.specs.History.{count};
 ghost use Rattle.tmem_lines.specs.Lines.{HoldsRestOf};
 ghost use Rattle.tmem_lines.specs.Views.{LinesView};
@@ -15,7 +15,7 @@ ghost use Rattle.tmem_desk.specs.Told.{rests_within, told_last, told_lines};
 use crate::desk::Desk;
 use crate::failure::DeskFailure;
 use crate::naming::ServedNaming;
-use crate::service::Service;
+use crate::served::ServedStore;
 use crate::told::Told;
 use std::alloc::{AllocError, Global};
 use std::collections::VecDeque;
@@ -23,21 +23,18 @@ use std::io::Write;
 use std::mem;
 use std::sync::Wait;
 use tmem_core::Settled;
-use tmem_disk::Disk;
 use tmem_fault::Fault;
-use tmem_invariants::Invariants;
 use tmem_lines::{Cut, Lines};
 use tmem_requests::{Answer, AnswerLine};
-use tmem_tree::StoredSteps;
 
 impl<N: ServedNaming> Desk<N> {
     /// Takes a piece of input, and answers all its lines and those that need not wait any more, by one write, once all that is told is
     /// durable. Where the store cannot go on, each request that has no answer yet is told its answer if that rests on durable transactions
     /// alone, and else why; and the same is the refusal. But where that is `Memory`, none is told anything else, and some may not be told.
     /// Refused with `Output` where the answers could not be printed.
-    pub fn serve<R: Wait, D: Disk + Drop, T: Invariants + Drop, S: StoredSteps + Drop, W: Write>(
+    pub fn serve<V: ServedStore<N>, W: Write>(
         &mut self,
-        service: &Service<R, D, N, T, S>,
+        service: &V,
         lines: &mut Lines,
         piece: &[u8],
         out: &mut W,
@@ -56,11 +53,7 @@ impl<N: ServedNaming> Desk<N> {
     }
 
     // Takes each line that has ended, tries again those that wait, and makes all durable.
-    fn run<R: Wait, D: Disk + Drop, T: Invariants + Drop, S: StoredSteps + Drop>(
-        &mut self,
-        service: &Service<R, D, N, T, S>,
-        lines: &mut Lines,
-    ) -> Result<(), Fault>
+    fn run<V: ServedStore<N>>(&mut self, service: &V, lines: &mut Lines) -> Result<(), Fault>
         ensures durable { OnOk result (self.new.pass.seen ≡ self.new.pass.known) }
         ensures runs { OnOk result ((text : List ℕ) → HoldsRestOf lines.old text → RunsPiece (store N.name.start N.opening N.program N.arities N.always) text lines.new (desk_view self.old) (desk_view self.new)) }
         ensures err { IfErr result (λ f. (text : List ℕ) → HoldsRestOf lines.old text → OrMemory f (TakesPart (store N.name.start N.opening N.program N.arities N.always) text lines.new (desk_view self.old) (desk_view self.new))) }
@@ -70,10 +63,7 @@ impl<N: ServedNaming> Desk<N> {
     }
 
     // Tries again those that wait, and makes all durable.
-    fn finish<R: Wait, D: Disk + Drop, T: Invariants + Drop, S: StoredSteps + Drop>(
-        &mut self,
-        service: &Service<R, D, N, T, S>,
-    ) -> Result<(), Fault>
+    fn finish<V: ServedStore<N>>(&mut self, service: &V) -> Result<(), Fault>
         ensures ok { OnOk result (Finishes (store N.name.start N.opening N.program N.arities N.always) (desk_view self.old) (desk_view self.new)) }
         ensures err { IfErr result (λ f. OrMemory f (TriesUntil (store N.name.start N.opening N.program N.arities N.always) (desk_view self.old) (desk_view self.new))) }
     {
@@ -82,28 +72,21 @@ impl<N: ServedNaming> Desk<N> {
     }
 
     // Makes durable all that the pass knows.
-    fn harden<R: Wait, D: Disk + Drop, T: Invariants + Drop, S: StoredSteps + Drop>(
-        &mut self,
-        service: &Service<R, D, N, T, S>,
-    ) -> Result<(), Fault>
+    fn harden<V: ServedStore<N>>(&mut self, service: &V) -> Result<(), Fault>
         ensures all { OnOk result (self.new.pass.seen ≡ self.new.pass.known) }
         ensures sees { SeesMore self.old.pass self.new.pass }
         ensures desk { desk_view self.new ≡ by (desk_view self.old) self.new.pass }
     {
-        service.front.flush_all(service.rt, &mut self.pass)?;
+        service.flush_all(&mut self.pass)?;
         Ok(())
     }
 
     // Takes each line that has ended.
-    fn take_lines<R: Wait, D: Disk + Drop, T: Invariants + Drop, S: StoredSteps + Drop>(
-        &mut self,
-        service: &Service<R, D, N, T, S>,
-        lines: &mut Lines,
-    ) -> Result<(), Fault>
+    fn take_lines<V: ServedStore<N>>(&mut self, service: &V, lines: &mut Lines) -> Result<(), Fault>
         ensures ok { OnOk result ((text : List ℕ) → HoldsRestOf lines.old text → TakesAll (store N.name.start N.opening N.program N.arities N.always) text lines.new (desk_view self.old) (desk_view self.new)) }
         ensures err { IfErr result (λ f. (text : List ℕ) → HoldsRestOf lines.old text → OrMemory f (TakesPart (store N.name.start N.opening N.program N.arities N.always) text lines.new (desk_view self.old) (desk_view self.new))) }
     {
-        for _ in service.rt.forever() {
+        for _ in service.runtime().forever() {
             match lines.cut() {
                 Cut::Line => self.take_line(service, lines.line())?,
                 Cut::TooLong => self.take_long_line()?,
@@ -129,9 +112,9 @@ impl<N: ServedNaming> Desk<N> {
 
     /// Ends serving at the end of the input: takes what is left as a line that lacks its line break, tries again those that wait, and
     /// answers those that still do that the store is closed. Otherwise as `serve`.
-    pub fn end<R: Wait, D: Disk + Drop, T: Invariants + Drop, S: StoredSteps + Drop, W: Write>(
+    pub fn end<V: ServedStore<N>, W: Write>(
         &mut self,
-        service: &Service<R, D, N, T, S>,
+        service: &V,
         lines: &mut Lines,
         out: &mut W,
     ) -> Result<(), DeskFailure>
@@ -149,11 +132,7 @@ impl<N: ServedNaming> Desk<N> {
     }
 
     // Takes what is left at the end of the input, tries again those that wait, and makes all durable.
-    fn run_last<R: Wait, D: Disk + Drop, T: Invariants + Drop, S: StoredSteps + Drop>(
-        &mut self,
-        service: &Service<R, D, N, T, S>,
-        lines: &mut Lines,
-    ) -> Result<(), Fault>
+    fn run_last<V: ServedStore<N>>(&mut self, service: &V, lines: &mut Lines) -> Result<(), Fault>
         ensures durable { OnOk result (self.new.pass.seen ≡ self.new.pass.known) }
         ensures runs { OnOk result ((text : List ℕ) → HoldsRestOf lines.old text → RunsLast (store N.name.start N.opening N.program N.arities N.always) text (desk_view self.old) (desk_view self.new)) }
         ensures err { IfErr result (λ f. (text : List ℕ) → HoldsRestOf lines.old text → OrMemory f (TakesRest (store N.name.start N.opening N.program N.arities N.always) text (desk_view self.old) (desk_view self.new))) }
@@ -164,11 +143,7 @@ impl<N: ServedNaming> Desk<N> {
     }
 
     // Takes what is left at the end of the input.
-    fn take_last<R: Wait, D: Disk + Drop, T: Invariants + Drop, S: StoredSteps + Drop>(
-        &mut self,
-        service: &Service<R, D, N, T, S>,
-        lines: &mut Lines,
-    ) -> Result<(), Fault>
+    fn take_last<V: ServedStore<N>>(&mut self, service: &V, lines: &mut Lines) -> Result<(), Fault>
         ensures ok { OnOk result ((text : List ℕ) → HoldsRestOf lines.old text → TakesLast (store N.name.start N.opening N.program N.arities N.always) text (desk_view self.old) (desk_view self.new)) }
         ensures err { IfErr result (λ f. (text : List ℕ) → HoldsRestOf lines.old text → OrMemory f (TakesRest (store N.name.start N.opening N.program N.arities N.always) text (desk_view self.old) (desk_view self.new))) }
         ensures rest { HoldsRestOf lines.new [] }
@@ -194,9 +169,9 @@ impl<N: ServedNaming> Desk<N> {
     }
 
     // Tells each request that has no answer yet its answer, if that rests on durable transactions alone, or why the store cannot go on.
-    fn fail<R: Wait, D: Disk + Drop, T: Invariants + Drop, S: StoredSteps + Drop, W: Write>(
+    fn fail<V: ServedStore<N>, W: Write>(
         &mut self,
-        service: &Service<R, D, N, T, S>,
+        service: &V,
         lines: &mut Lines,
         fault: Fault,
         out: &mut W,
@@ -206,16 +181,16 @@ impl<N: ServedNaming> Desk<N> {
         ensures memory { fault ≡ Fault.Memory → IfErr result (IsMemoryOrOutput (Appends (W.contents out.old) (W.contents out.new))) }
         ensures told { IfErr result (λ e. (text : List ℕ) → HoldsRestOf lines.old text → TellsWhy (store N.name.start N.opening N.program N.arities N.always) (λ texts. Splits text texts lines.new) (desk_view self.old) (desk_view self.new) (Appends (W.contents out.old) (W.contents out.new)) e) }
     {
-        let fault = why_ended(fault, service.front.fault(service.rt));
+        let fault = why_ended(fault, service.fault());
         self.pass_over(service, lines)?;
         self.close_waiting()?;
         self.give_last(service, fault, out)
     }
 
     // Prints all that is told at last, where the store cannot go on for this fault.
-    fn give_last<R, D: Disk + Drop, T: Invariants + Drop, S: StoredSteps + Drop, W: Write>(
+    fn give_last<V: ServedStore<N>, W: Write>(
         &mut self,
-        service: &Service<R, D, N, T, S>,
+        service: &V,
         fault: Fault,
         out: &mut W,
     ) -> Result<(), DeskFailure>
@@ -238,11 +213,7 @@ impl<N: ServedNaming> Desk<N> {
     }
 
     // How many transactions are durable, where the store cannot go on. `None` where memory did not suffice: what was told by then is open.
-    fn durable_at_last<R, D: Disk + Drop, T: Invariants + Drop, S: StoredSteps + Drop>(
-        &mut self,
-        service: &Service<R, D, N, T, S>,
-        fault: &Fault,
-    ) -> Option<u64>
+    fn durable_at_last<V: ServedStore<N>>(&mut self, service: &V, fault: &Fault) -> Option<u64>
         ensures memory { fault.now ≡ Fault.Memory → result ≡ None }
         ensures none { IsNone result → fault.now ≡ Fault.Memory }
         ensures counts { IfSome result (λ n. n ≡ count N.name.start self.new.pass.seen) }
@@ -251,20 +222,16 @@ impl<N: ServedNaming> Desk<N> {
     {
         match fault {
             Fault::Memory => None,
-            _ => Some(service.front.look(&mut self.pass)),
+            _ => Some(service.look(&mut self.pass)),
         }
     }
 
     // Takes each line that has ended, and runs none.
-    fn pass_over<R: Wait, D: Disk + Drop, T: Invariants + Drop, S: StoredSteps + Drop>(
-        &mut self,
-        service: &Service<R, D, N, T, S>,
-        lines: &mut Lines,
-    ) -> Result<(), Fault>
+    fn pass_over<V: ServedStore<N>>(&mut self, service: &V, lines: &mut Lines) -> Result<(), Fault>
         ensures ok { OnOk result ((text : List ℕ) → HoldsRestOf lines.old text → PassesAll (store N.name.start N.opening N.program N.arities N.always) text lines.new (desk_view self.old) (desk_view self.new)) }
         ensures err { IfErr result (λ f. f ≡ Fault.Memory) }
     {
-        for _ in service.rt.forever() {
+        for _ in service.runtime().forever() {
             match lines.cut() {
                 Cut::Line => self.pass_line_over(service, lines.line())?,
                 Cut::TooLong => self.take_long_line()?,
@@ -275,14 +242,14 @@ impl<N: ServedNaming> Desk<N> {
     }
 }
 
-// Why serving ends: what the front says, unless memory did not suffice.
-fn why_ended(fault: Fault, of_front: Option<Fault>) -> Fault
+// Why serving ends: what the store says, unless memory did not suffice.
+fn why_ended(fault: Fault, of_store: Option<Fault>) -> Fault
     ensures memory { fault ≡ Fault.Memory → result ≡ Fault.Memory }
-    ensures first { fault ≢ Fault.Memory → result ≡ unwrap_or of_front fault }
+    ensures first { fault ≢ Fault.Memory → result ≡ unwrap_or of_store fault }
 {
     match fault {
         Fault::Memory => Fault::Memory,
-        other => of_front.unwrap_or(other),
+        other => of_store.unwrap_or(other),
     }
 }
 

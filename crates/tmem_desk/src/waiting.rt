@@ -7,23 +7,17 @@ ghost use Rattle.tmem_desk.specs.Serving.{TriesNext, Round, Wakes};
 
 use crate::desk::Desk;
 use crate::naming::ServedNaming;
-use crate::service::Service;
+use crate::served::ServedStore;
 use std::sync::Wait;
-use tmem_disk::Disk;
 use tmem_fault::Fault;
-use tmem_invariants::Invariants;
-use tmem_tree::StoredSteps;
 
 impl<N: ServedNaming> Desk<N> {
     // Tries those that wait again, until a round answers none of them.
-    pub(crate) fn wake<R: Wait, D: Disk + Drop, T: Invariants + Drop, S: StoredSteps + Drop>(
-        &mut self,
-        service: &Service<R, D, N, T, S>,
-    ) -> Result<(), Fault>
+    pub(crate) fn wake<V: ServedStore<N>>(&mut self, service: &V) -> Result<(), Fault>
         ensures ok { OnOk result (Wakes (store N.name.start N.opening N.program N.arities N.always) (desk_view self.old) (desk_view self.new)) }
         ensures err { IfErr result (λ f. OrMemory f (TriesUntil (store N.name.start N.opening N.program N.arities N.always) (desk_view self.old) (desk_view self.new))) }
     {
-        for _ in service.rt.forever() {
+        for _ in service.runtime().forever() {
             let told = self.told.len();
             self.try_each(service)?;
             if self.told.len() == told {
@@ -34,10 +28,7 @@ impl<N: ServedNaming> Desk<N> {
     }
 
     // Tries each of those that wait once.
-    fn try_each<R: Wait, D: Disk + Drop, T: Invariants + Drop, S: StoredSteps + Drop>(
-        &mut self,
-        service: &Service<R, D, N, T, S>,
-    ) -> Result<(), Fault>
+    fn try_each<V: ServedStore<N>>(&mut self, service: &V) -> Result<(), Fault>
         ensures ok { OnOk result (Round (store N.name.start N.opening N.program N.arities N.always) (desk_view self.old) (desk_view self.new)) }
         ensures err { IfErr result (λ f. OrMemory f (TriesUntil (store N.name.start N.opening N.program N.arities N.always) (desk_view self.old) (desk_view self.new))) }
     {
@@ -48,10 +39,7 @@ impl<N: ServedNaming> Desk<N> {
     }
 
     // Tries the first of those that wait, if one does. Where it has to wait on, it goes behind the others.
-    fn try_first<R: Wait, D: Disk + Drop, T: Invariants + Drop, S: StoredSteps + Drop>(
-        &mut self,
-        service: &Service<R, D, N, T, S>,
-    ) -> Result<(), Fault>
+    fn try_first<V: ServedStore<N>>(&mut self, service: &V) -> Result<(), Fault>
         ensures ok { OnOk result (TriesNext (store N.name.start N.opening N.program N.arities N.always) (desk_view self.old) (desk_view self.new)) }
         ensures err { IfErr result (λ f. OrMemory f (GoesBehind (desk_view self.old) (desk_view self.new))) }
     {

@@ -43,45 +43,38 @@ impl fmt::Display for Expected {
 
     fn fmt<W: fmt::Write>(&self, f: &mut fmt::Formatter<W>) -> fmt::Result {
         match self {
-            Expected::Json => write!(
-                f,
-                "from here on this is not JSON (which may nest 127 levels deep)"
+            Expected::Json => f.write_str(
+                "from here on this is not JSON (which may nest 127 levels deep)",
             ),
-            Expected::MoreJson => write!(f, "the text ends here, before its JSON does"),
-            Expected::Object => write!(
-                f,
-                "this is not an object with the keys vars, slots and events"
+            Expected::MoreJson => f.write_str("the text ends here, before its JSON does"),
+            Expected::Object => f.write_str(
+                "this is not an object with the keys vars, slots and events",
             ),
             Expected::Member(key) => write!(f, "there is no {key}"),
-            Expected::ScriptKeys => write!(
-                f,
-                "this has a key that is none of vars, slots and events"
+            Expected::ScriptKeys => f.write_str(
+                "this has a key that is none of vars, slots and events",
             ),
-            Expected::ScriptKey => { write!(f, "this key is none of vars, slots and events") }
-            Expected::Vars => write!(f, "a store has 1 to 1024 variables"),
-            Expected::Slots => write!(f, "a store has 2 to 64 log slots"),
-            Expected::Number => write!(f, "this is not a whole number from 0 to 65535"),
-            Expected::Entries => write!(f, "this is not an array of entries"),
-            Expected::Entry => write!(
-                f,
-                "this is none of \"flush\", \"checkpoint\", \"look\", \"reopen\" and \"show\", and no object with one of the keys begin, turn and settle alone"
+            Expected::ScriptKey => { f.write_str("this key is none of vars, slots and events") }
+            Expected::Vars => f.write_str("a store has 1 to 1024 variables"),
+            Expected::Slots => f.write_str("a store has 2 to 64 log slots"),
+            Expected::Number => f.write_str("this is not a whole number from 0 to 65535"),
+            Expected::Entries => f.write_str("this is not an array of entries"),
+            Expected::Entry => f.write_str(
+                "this is none of \"flush\", \"checkpoint\", \"look\", \"reopen\" and \"show\", and no object with one of the keys begin, turn and settle alone",
             ),
-            Expected::Begin => write!(f, "this is not an array of an attempt and a transaction"),
-            Expected::Attempt => write!(
-                f,
-                "this is not a whole number from 0 to 15, as an attempt is"
+            Expected::Begin => f.write_str("this is not an array of an attempt and a transaction"),
+            Expected::Attempt => f.write_str(
+                "this is not a whole number from 0 to 15, as an attempt is",
             ),
-            Expected::Transaction(RequestFlaw::NotTransaction) => write!(
-                f,
-                "this is neither \"skip\" nor \"retry\", and no object with one of the keys seq, put, read, write, step, when, orelse, abort, check and retire alone"
+            Expected::Transaction(RequestFlaw::NotTransaction) => f.write_str(
+                "this is neither \"skip\" nor \"retry\", and no object with one of the keys seq, put, read, write, step, when, orelse, abort, check and retire alone",
             ),
-            Expected::Transaction(RequestFlaw::NotStep) => write!(
-                f,
-                "this is none of the steps \"add\", \"sub\" and \"need\""
+            Expected::Transaction(RequestFlaw::NotStep) => f.write_str(
+                "this is none of the steps \"add\", \"sub\" and \"need\"",
             ),
             Expected::Transaction(why) => write!(f, "{why}"),
             Expected::Plan { excess, .. } => write!(f, "{excess}"),
-            Expected::Script => write!(f, "this is not a script"),
+            Expected::Script => f.write_str("this is not a script"),
         }
     }
 }

@@ -15,41 +15,34 @@ impl fmt::Display for FaultHelp {
 
     fn fmt<W: fmt::Write>(&self, f: &mut fmt::Formatter<W>) -> fmt::Result {
         match &self.0 {
-            Fault::Memory => write!(
-                f,
-                "memory did not suffice, or no thread could be started; give the program more (ulimit -v, ulimit -u), or ask for less"
+            Fault::Memory => f.write_str(
+                "memory did not suffice, or no thread could be started; give the program more (ulimit -v, ulimit -u), or ask for less",
             ),
             Fault::Device => write!(
                 f,
                 "a call on the file failed, or a sync of it failed before, and this process makes none any more; look at its rights, at room (df), at limits (ulimit -f, ulimit -n), whether the device is read-only, and into the system's log (dmesg); then open the store again, and see what it has before anything is repeated; if the store fails again, end each program that uses it, copy it to another disk, and use that copy alone from then on"
             ),
-            Fault::Closed => write!(
-                f,
-                "an earlier failure has closed the store: a call on its file failed, or it could not be opened again; mend that, open the store again, and see what it has before anything is repeated"
+            Fault::Closed => f.write_str(
+                "an earlier failure has closed the store: a call on its file failed, or it could not be opened again; mend that, open the store again, and see what it has before anything is repeated",
             ),
             Fault::Unknown => write!(
                 f,
                 "a write or sync failed; of a flush, all of the batch is durable, or none of it; a checkpoint puts no transaction in doubt; repeat nothing yet: open the store again, after an error of the disk (dmesg) once the machine was started anew, and see how many transactions there are; if writes fail again, look for room, also below the device (df, lvs), or end each program that uses the store, copy it to another disk, and use that copy alone from then on"
             ),
-            Fault::Full => write!(
-                f,
-                "256 transactions wait to be durable; flush, and settle again"
+            Fault::Full => f.write_str(
+                "256 transactions wait to be durable; flush, and settle again",
             ),
-            Fault::LogFull => write!(
-                f,
-                "every slot of the log is used; make a checkpoint, and flush again"
+            Fault::LogFull => f.write_str(
+                "every slot of the log is used; make a checkpoint, and flush again",
             ),
-            Fault::Conflict => write!(
-                f,
-                "a value that the transaction read has changed; begin it again"
+            Fault::Conflict => f.write_str(
+                "a value that the transaction read has changed; begin it again",
             ),
-            Fault::NotFormatted => write!(
-                f,
-                "this does not begin as a store; check the path; only if a store was there, move this away, and put a copy in its place (what the copy lacks is lost); only if there never was one, make one by tmem init"
+            Fault::NotFormatted => f.write_str(
+                "this does not begin as a store; check the path; only if a store was there, move this away, and put a copy in its place (what the copy lacks is lost); only if there never was one, make one by tmem init",
             ),
-            Fault::Damaged => write!(
-                f,
-                "the file is not as tmem leaves one: something else changed it, or a later version of tmem wrote it; run that version, or else move the file away and put a copy in its place (tmem does not repair it, and what the copy lacks is lost)"
+            Fault::Damaged => f.write_str(
+                "the file is not as tmem leaves one: something else changed it, or a later version of tmem wrote it; run that version, or else move the file away and put a copy in its place (tmem does not repair it, and what the copy lacks is lost)",
             ),
             Fault::Missing(name) => write!(
                 f,
@@ -60,21 +53,17 @@ impl fmt::Display for FaultHelp {
                 "the invariant {name} is registered in the store, and as this program or shape means it, it is false of the store's values; check the paths of the store and of the shape or script; if they are the ones, compare what it means here with what it meant in the program or shape that used the store last, as that was then; if that differs, open the store with that one; only if not, something changed the file: move it away, and put a copy in its place (what the copy lacks is lost)"
             ),
             Fault::BadPlan(cause) => write!(f, "{}; change the transaction", words_of(*cause)),
-            Fault::BadName => write!(
-                f,
-                "a name is not 1 to 16 letters from a to z, or stands twice, or there are more than 64; change the program"
+            Fault::BadName => f.write_str(
+                "a name is not 1 to 16 letters from a to z, or stands twice, or there are more than 64; change the program",
             ),
-            Fault::BadFootprint => write!(
-                f,
-                "an invariant is over no variable, over more than 16, over one twice, or over one that the store lacks (they count from 0); correct that invariant"
+            Fault::BadFootprint => f.write_str(
+                "an invariant is over no variable, over more than 16, over one twice, or over one that the store lacks (they count from 0); correct that invariant",
             ),
-            Fault::Spent => write!(
-                f,
-                "the count of transactions or of images is at 2^64 - 1, to which no use comes, so something changed the file; see what it has (tmem show PATH); then move it away, and put a copy in its place (what the copy lacks is lost)"
+            Fault::Spent => f.write_str(
+                "the count of transactions or of images is at 2^64 - 1, to which no use comes, so something changed the file; see what it has (tmem show PATH); then move it away, and put a copy in its place (what the copy lacks is lost)",
             ),
-            Fault::NoSeat => write!(
-                f,
-                "all 32 passes were given out, and one that was dropped is lost until the store is opened again; keep passes, or share them: acquire_pass lends one, and release_pass hands it back"
+            Fault::NoSeat => f.write_str(
+                "all 32 passes were given out, and one that was dropped is lost until the store is opened again; keep passes, or share them: acquire_pass lends one, and release_pass hands it back",
             ),
             Fault::Geometry => write!(
                 f,

@@ -59,23 +59,23 @@ impl fmt::Display for Fault {
 
     fn fmt<W: fmt::Write>(&self, f: &mut fmt::Formatter<W>) -> fmt::Result {
         match self {
-            Fault::Memory => write!(f, "fault 1 memory"),
-            Fault::Device => write!(f, "fault 2 device"),
-            Fault::Closed => write!(f, "fault 3 closed"),
-            Fault::Unknown => write!(f, "fault 4 unknown"),
-            Fault::Full => write!(f, "fault 5 full"),
-            Fault::LogFull => write!(f, "fault 6 logfull"),
-            Fault::Conflict => write!(f, "fault 7 conflict"),
-            Fault::NotFormatted => write!(f, "fault 8 notformatted"),
-            Fault::Damaged => write!(f, "fault 9 damaged"),
+            Fault::Memory => f.write_str("fault 1 memory"),
+            Fault::Device => f.write_str("fault 2 device"),
+            Fault::Closed => f.write_str("fault 3 closed"),
+            Fault::Unknown => f.write_str("fault 4 unknown"),
+            Fault::Full => f.write_str("fault 5 full"),
+            Fault::LogFull => f.write_str("fault 6 logfull"),
+            Fault::Conflict => f.write_str("fault 7 conflict"),
+            Fault::NotFormatted => f.write_str("fault 8 notformatted"),
+            Fault::Damaged => f.write_str("fault 9 damaged"),
             Fault::Missing(name) => write!(f, "fault 10 missing {name}"),
             Fault::Broken(name) => write!(f, "fault 11 broken {name}"),
             Fault::BadPlan(cause) => write!(f, "fault 12 badplan {cause}"),
-            Fault::BadName => write!(f, "fault 13 badname"),
-            Fault::BadFootprint => write!(f, "fault 14 badfootprint"),
-            Fault::Spent => write!(f, "fault 15 spent"),
-            Fault::NoSeat => write!(f, "fault 16 noseat"),
-            Fault::Geometry => write!(f, "fault 17 geometry"),
+            Fault::BadName => f.write_str("fault 13 badname"),
+            Fault::BadFootprint => f.write_str("fault 14 badfootprint"),
+            Fault::Spent => f.write_str("fault 15 spent"),
+            Fault::NoSeat => f.write_str("fault 16 noseat"),
+            Fault::Geometry => f.write_str("fault 17 geometry"),
         }
     }
 }

@@ -19,7 +19,7 @@ use Rattle.tmem_seats.specs.Histories.{marked, numbered}
 use Rattle.tmem_fault.specs.declared.fault.Fault.TheVariants as fault
 use Rattle.tmem_tree.specs.declared.tx.Tx.{Tx}
 use Rattle.tmem_tentative.specs.Right.{IsRight}
-use Rattle.tmem_front.specs.Settling.{SettlesPass, SettlesPlan, SettlesAtLast, KnowsMore}
+use Rattle.tmem_seats.specs.Settling.{SettlesPass, SettlesPlan, SettlesAtLast, KnowsMore}
 
 -- a pass that knows more settles as it would have before
 pub settles_later : (start : ℕ) (opening : State) (program : Program) (attempt : Attempt) (old mid : PassRoleView) (answer : Result Settled Fault) (new : PassRoleView)

@@ -12,7 +12,7 @@ use Rattle.tmem_spine.specs.Views.{PassRoleView}
 use Rattle.tmem_seats.specs.Deciding.{Decides}
 use Rattle.tmem_seats.specs.Histories.{state_after_history, numbered, IsSoundState}
 use Rattle.tmem_seats.specs.Seats.{CoreSeatView}
-use Rattle.tmem_front.specs.Settling.{SettlesPass}
+use Rattle.tmem_seats.specs.Settling.{SettlesPass}
 
 -- the pass is settled by what the core decides
 pub settles_as_decided : (start : ℕ) (opening : State) (program : Program) (attempt : Attempt) (old : CoreSeatView) (pass : PassRoleView) (answer : Result Settled Fault) (new : CoreSeatView) (pass' : PassRoleView)

@@ -21,10 +21,10 @@ use Rattle.tmem_seats.specs.declared.naming.ProgramNaming.{Ghosts as ProgramGhos
 use Rattle.tmem_seats.specs.declared.naming.StoreNaming.{Ghosts as StoreGhosts}
 use Rattle.tmem_seats.specs.contracts.core_seat.CoreSeat.{the_row as core_row}
 use Rattle.tmem_seats.specs.contracts.journal_seat.JournalSeat.{the_row as journal_row}
+use Rattle.tmem_seats.specs.contracts.pass.Pass.{the_row as pass_row}
 use Rattle.tmem_spine.specs.contracts.seats.PassSide.{the_row as seat_row}
 use Rattle.tmem_tentative.specs.contracts.cursor.Cursor.{the_row as cursor_row}
 use Rattle.tmem_front.specs.contracts.brief_lock.BriefLock.{the_field as lock_field, the_type as lock_type}
-use Rattle.tmem_front.specs.contracts.pass.Pass.{the_row as pass_row}
 use Rattle.tmem_front.specs.contracts.pool.Pool.{the_row as pool_row}
 use Rattle.std.specs.contracts.sync.Condvar.{the_row as condvar_row}
 use Rattle.tmem_front.specs.contracts.front.Front.{the_row, the_type}

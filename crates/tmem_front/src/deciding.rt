@@ -5,7 +5,7 @@ ghost use Rattle.tmem_core.specs.SettleAnswer.{is_stale};
 ghost use Rattle.tmem_spine.specs.History.{count};
 ghost use Rattle.tmem_tentative.specs.Fits.{IsForVariables, IsForNames};
 ghost use Rattle.tmem_seats.specs.Histories.{state_after_history};
-ghost use Rattle.tmem_front.specs.Settling.{SettlesPass};
+ghost use Rattle.tmem_seats.specs.Settling.{SettlesPass};
 
 use tmem_core::Decision;
 use tmem_fault::Fault;

@@ -3,16 +3,15 @@ ghost use Rattle.std.specs.Prelude.{◌≡◌, ◌≢◌, ◌↔◌, ◌<◌, �
 ghost use Rattle.tmem_seats.specs.Flushing.{IsFlusherRefusal};
 ghost use Rattle.tmem_tree.specs.Plans.{FitsSteps, FitsVariables, FitsNames, FitsShapes};
 ghost use Rattle.tmem_spine.specs.History.{count};
-ghost use Rattle.tmem_front.specs.Settling.{IsNumberedWithin, SeesMore, SettlesDurably};
+ghost use Rattle.tmem_seats.specs.Settling.{IsNumberedWithin, SeesMore, SettlesDurably};
 
 use crate::front::Front;
-use crate::pass::Pass;
 use std::sync::Wait;
 use tmem_core::Settled;
 use tmem_disk::Disk;
 use tmem_fault::Fault;
 use tmem_invariants::Invariants;
-use tmem_seats::StoreNaming;
+use tmem_seats::{Pass, StoreNaming};
 use tmem_tree::{Plan, StoredSteps};
 
 impl<D: Disk + Drop, N: StoreNaming, T: Invariants + Drop, S: StoredSteps + Drop> Front<

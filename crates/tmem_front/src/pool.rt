@@ -3,7 +3,6 @@ ghost use Rattle.std.specs.Prelude.{◌≡◌, ◌⊎◌, ◌≤◌, vec_capacit
 ghost use Rattle.tmem_spine.specs.declared.spine.TheConstants.{MOST_PASSES};
 
 use crate::front::Front;
-use crate::pass::Pass;
 use crate::patience::{Endless, Limited, Patience};
 use std::rt::Clock;
 use std::sync::Wait;
@@ -11,7 +10,7 @@ use std::time::Duration;
 use tmem_disk::Disk;
 use tmem_fault::Fault;
 use tmem_invariants::Invariants;
-use tmem_seats::StoreNaming;
+use tmem_seats::{Pass, StoreNaming};
 use tmem_spine::{MOST_PASSES, Naming};
 use tmem_tree::StoredSteps;
 

@@ -8,18 +8,17 @@ ghost use Rattle.tmem_tentative.specs.Cursors.{HasEnded};
 ghost use Rattle.tmem_tree.specs.Plans.{FitsSteps, FitsVariables, FitsNames, FitsShapes};
 ghost use Rattle.tmem_tree.specs.Shapes.{names_of};
 ghost use Rattle.tmem_seats.specs.Histories.{state_after_history};
-ghost use Rattle.tmem_front.specs.Refusing.{IsFalseOn, AreEndValues, end_value};
-ghost use Rattle.tmem_front.specs.Settling.{KnowsMore};
+ghost use Rattle.tmem_seats.specs.Refusing.{IsFalseOn, AreEndValues, end_value};
+ghost use Rattle.tmem_seats.specs.Settling.{KnowsMore};
 
 use crate::front::Front;
-use crate::pass::Pass;
 use std::alloc::{AllocError, Global};
 use std::sync::Wait;
 use tmem_disk::Disk;
 use tmem_effect::Writes;
 use tmem_fault::{Fault, Name};
 use tmem_invariants::Invariants;
-use tmem_seats::{CoreSeat, StoreNaming};
+use tmem_seats::{CoreSeat, Pass, StoreNaming};
 use tmem_tentative::{Attempt, Cursor, Probe, Progress, Values};
 use tmem_tree::{Plan, Shape, StoredSteps};
 

@@ -5,16 +5,15 @@ ghost use Rattle.tmem_effect.specs.Names.{has_name};
 ghost use Rattle.tmem_effect.specs.Prefix.{IsPrefix};
 ghost use Rattle.tmem_spine.specs.History.{count};
 ghost use Rattle.tmem_seats.specs.Histories.{state_after_history};
-ghost use Rattle.tmem_front.specs.Settling.{KnowsMore};
+ghost use Rattle.tmem_seats.specs.Settling.{KnowsMore};
 
 use crate::front::Front;
-use crate::pass::Pass;
 use std::alloc::AllocError;
 use std::sync::Wait;
 use tmem_disk::Disk;
 use tmem_fault::{Cause, Fault, Name};
 use tmem_invariants::Invariants;
-use tmem_seats::{CoreSeat, StoreNaming};
+use tmem_seats::{CoreSeat, Pass, StoreNaming};
 use tmem_tree::StoredSteps;
 
 /// What a store has at one moment.

@@ -3,10 +3,9 @@ ghost use Rattle.std.specs.Prelude.{◌≡◌, ◌≢◌, ◌<◌, ◌≤◌, Ok
 ghost use Rattle.tmem_effect.specs.Prefix.{IsPrefix};
 ghost use Rattle.tmem_spine.specs.History.{count};
 ghost use Rattle.tmem_tree.specs.Plans.{FitsSteps, FitsVariables, FitsNames, FitsShapes};
-ghost use Rattle.tmem_front.specs.Settling.{SettlesAtLast};
+ghost use Rattle.tmem_seats.specs.Settling.{SettlesAtLast};
 
 use crate::front::Front;
-use crate::pass::Pass;
 use crate::patience::Limited;
 use std::rt::Clock;
 use std::sync::Wait;
@@ -15,7 +14,7 @@ use tmem_core::Settled;
 use tmem_disk::Disk;
 use tmem_fault::Fault;
 use tmem_invariants::Invariants;
-use tmem_seats::StoreNaming;
+use tmem_seats::{Pass, StoreNaming};
 use tmem_tree::{Plan, StoredSteps};
 
 /// How a wait ended that has a limit.

@@ -28,7 +28,6 @@ impl Weight {
 }
 
 // A number times a value.
-#[tactic(auto, using(crate::proofs::Sizes::product_size))]
 fn product(number: i32, value: i64) -> i128
     ensures value { result ≡ number *ℤ value }
     ensures size { unsigned_abs result ≤ 2 ^ 94 }

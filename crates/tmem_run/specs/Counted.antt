@@ -63,7 +63,7 @@ lost_of c =
 -- what is told of that: where all of them are lost, and where the first ones may be durable
 abbrev pub gone_text : Lost → List ℕ
 gone_text lost =
-    codes "not durable, and so gone: " ++ (decimal lost.count ++ (codes " of the committed transactions, from number " ++ (decimal lost.first ++ codes " on: each that is not among the first N of the next `opened N`, or, if none follows, of the last `durable N` or `opened N` (a flush takes 64 at most); to have them, see by tmem show how many the store has, and play those behind that alone, and then a flush")))
+    codes "not durable, and so gone: " ++ (decimal lost.count ++ (codes " of the committed transactions, from number " ++ (decimal lost.first ++ codes " on: each that is not among the first N of the next `opened N`, or, if none follows, of the last `durable N` or `opened N`; to have them, play them alone, in their order, and flush until `durable N` has all; if later ones are kept, see first what this undoes")))
 
 abbrev pub doubt_text : Lost → List ℕ
 doubt_text lost =

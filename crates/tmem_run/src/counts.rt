@@ -169,7 +169,7 @@ impl fmt::Display for Lost {
         } else {
             write!(
                 f,
-                "not durable, and so gone: {count} of the committed transactions, from number {first} on: each that is not among the first N of the next `opened N`, or, if none follows, of the last `durable N` or `opened N` (a flush takes 64 at most); to have them, see by tmem show how many the store has, and play those behind that alone, and then a flush"
+                "not durable, and so gone: {count} of the committed transactions, from number {first} on: each that is not among the first N of the next `opened N`, or, if none follows, of the last `durable N` or `opened N`; to have them, play them alone, in their order, and flush until `durable N` has all; if later ones are kept, see first what this undoes"
             )
         }
     }

@@ -10,11 +10,12 @@ ghost use Rattle.tmem_serve.specs.Turns.{ServesInput, StopsInput};
 ghost use Rattle.tmem_serve.specs.Stores.{IsWhyEnded, IsWhyStopped, OpensAndServes, ServesStore, first_line, first_unregistered};
 
 use crate::error::ServeError;
+use crate::service::Service;
 use std::alloc::Global;
 use std::io::{ErrorKind, Read, Write};
 use std::marker::Brand;
 use std::sync::Wait;
-use tmem_desk::{Desk, DeskFailure, ServedNaming, Service};
+use tmem_desk::{Desk, DeskFailure, ServedNaming, ServedStore};
 use tmem_disk::Disk;
 use tmem_fault::{Fault, Name};
 use tmem_front::{Front, OpenedFront};
@@ -200,18 +201,10 @@ fn flush<W: Write>(out: &mut W) -> Result<(), DeskFailure>
 }
 
 // Answers the lines of an input, piece by piece.
-fn serve_lines<
-    N: ServedNaming,
-    R: Wait,
-    D: Disk + Drop,
-    T: Invariants + Drop,
-    S: StoredSteps + Drop,
-    I: Read,
-    W: Write,
->(
+fn serve_lines<N: ServedNaming, R: Wait, V: ServedStore<N>, I: Read, W: Write>(
     rt: &R,
     alloc: Global,
-    service: &Service<R, D, N, T, S>,
+    service: &V,
     desk: &mut Desk<N>,
     input: &mut I,
     out: &mut W,

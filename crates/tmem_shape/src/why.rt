@@ -48,38 +48,36 @@ impl fmt::Display for ShapeFlaw {
 
     fn fmt<W: fmt::Write>(&self, f: &mut fmt::Formatter<W>) -> fmt::Result {
         match self {
-            ShapeFlaw::NotJson => write!(f, "this is not JSON (which may nest 127 levels deep)"),
-            ShapeFlaw::NotObject => write!(f, "this is not an object"),
-            ShapeFlaw::NotArray => write!(f, "this is not an array"),
-            ShapeFlaw::UnknownKey => write!(f, "this key is not known"),
+            ShapeFlaw::NotJson => f.write_str("this is not JSON (which may nest 127 levels deep)"),
+            ShapeFlaw::NotObject => f.write_str("this is not an object"),
+            ShapeFlaw::NotArray => f.write_str("this is not an array"),
+            ShapeFlaw::UnknownKey => f.write_str("this key is not known"),
             ShapeFlaw::Missing(key) => write!(f, "there is no {}", key.as_str()),
             ShapeFlaw::NotWithin(least, most) => {
                 write!(f, "this is not a whole number from {least} to {most}")
             }
-            ShapeFlaw::TooManyInvariants => write!(f, "there are more than 64 invariants"),
-            ShapeFlaw::NotWord => write!(f, "this is not one to sixteen letters from a to z"),
-            ShapeFlaw::Taken => write!(f, "nonneg, ordered and sum are names of other invariants"),
-            ShapeFlaw::NameTwice => write!(f, "an earlier invariant has this name"),
-            ShapeFlaw::NoTerm => write!(f, "there is no term"),
-            ShapeFlaw::TooManyTerms => write!(f, "there are more than 16 terms"),
-            ShapeFlaw::NotTerm => write!(f, "this is neither [C,VAR] nor [C,VAR,\"nonzero\"]"),
-            ShapeFlaw::NotCoefficient => write!(f, "this is not a whole number of 32 bits"),
-            ShapeFlaw::NotVariable => write!(f, "this is not a variable of the store"),
-            ShapeFlaw::VariableTwice => write!(f, "an earlier term has this variable"),
-            ShapeFlaw::NotBound => write!(f, "this is not a whole number of 64 bits"),
-            ShapeFlaw::NoBound => write!(f, "there is neither a least nor a most"),
-            ShapeFlaw::Crossed => write!(
-                f,
-                "the least is more than the most, so no values keep this"
+            ShapeFlaw::TooManyInvariants => f.write_str("there are more than 64 invariants"),
+            ShapeFlaw::NotWord => f.write_str("this is not one to sixteen letters from a to z"),
+            ShapeFlaw::Taken => f.write_str(
+                "nonneg, ordered and sum are names of other invariants",
             ),
-            ShapeFlaw::NotTrue => write!(f, "this is not true; write true, or leave the key out"),
+            ShapeFlaw::NameTwice => f.write_str("an earlier invariant has this name"),
+            ShapeFlaw::NoTerm => f.write_str("there is no term"),
+            ShapeFlaw::TooManyTerms => f.write_str("there are more than 16 terms"),
+            ShapeFlaw::NotTerm => f.write_str("this is neither [C,VAR] nor [C,VAR,\"nonzero\"]"),
+            ShapeFlaw::NotCoefficient => f.write_str("this is not a whole number of 32 bits"),
+            ShapeFlaw::NotVariable => f.write_str("this is not a variable of the store"),
+            ShapeFlaw::VariableTwice => f.write_str("an earlier term has this variable"),
+            ShapeFlaw::NotBound => f.write_str("this is not a whole number of 64 bits"),
+            ShapeFlaw::NoBound => f.write_str("there is neither a least nor a most"),
+            ShapeFlaw::Crossed => f.write_str(
+                "the least is more than the most, so no values keep this",
+            ),
+            ShapeFlaw::NotTrue => f.write_str("this is not true; write true, or leave the key out"),
             ShapeFlaw::NotName => {
-                write!(
-                    f,
-                    "this name is not 1 to 32 of a to z, 0 to 9 and _, a letter first"
-                )
+                f.write_str("this name is not 1 to 32 of a to z, 0 to 9 and _, a letter first")
             }
-            ShapeFlaw::NamedTwice => write!(f, "another name has this variable"),
+            ShapeFlaw::NamedTwice => f.write_str("another name has this variable"),
         }
     }
 }

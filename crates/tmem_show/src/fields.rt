@@ -1,7 +1,7 @@
 //! The fields of each part, and where a part goes wrong.
-ghost use Rattle.std.specs.Prelude.{◌<◌, ◌≤◌, IfOk};
+ghost use Rattle.std.specs.Prelude.{◌<◌, ◌≤◌};
 
-use crate::walk::{Stop, Walk};
+use crate::walk::Walk;
 use std::fmt;
 use tmem_effect::{MAX_CHECKS, MAX_RETIRES, MAX_WRITES};
 use tmem_fault::Name;
@@ -64,7 +64,7 @@ impl fmt::Display for Is {
             Is::Mark(mark) => put_named(f, "mark", mark.into()),
             Is::Value(var, value) => put_value(f, var, "is", value),
             Is::ZeroValues(first, last) if first == last => put_value(f, first, "is", 0),
-            Is::ZeroValues(first, last) => write!(f, "variables {first} to {last} are 0"),
+            Is::ZeroValues(first, last) => put_zeros(f, first, last),
             Is::First(number) => put_named(f, "first record", number),
             Is::Records(number) => put_counted(f, number.into(), "records"),
             Is::Writes(number) => put_counted(f, number.into(), "writes"),
@@ -93,190 +93,194 @@ fn put_value<W: fmt::Write>(
     write!(f, "variable {var} {verb} {value}")
 }
 
+fn put_zeros<W: fmt::Write>(f: &mut fmt::Formatter<W>, first: u16, last: u16) -> fmt::Result {
+    write!(f, "variables {first} to {last} are 0")
+}
+
 // Walks over a gate, and behind a closed one to the end. Answers whether it is open.
-fn walk_gate(walk: &mut Walk) -> Result<bool, Stop> {
-    if walk.byte()? == GATE_OPEN {
-        walk.pass(1, Is::Open)?;
-        return Ok(true);
+fn walk_gate(walk: &mut Walk) -> bool {
+    let is_open = walk.byte() == GATE_OPEN;
+    if is_open {
+        walk.pass(1, Is::Open);
+    } else {
+        walk.pass(1, Is::Closed);
+        walk.pass(usize::MAX, Is::Ignored);
     }
-    walk.pass(1, Is::Closed)?;
-    walk.pass(usize::MAX, Is::Ignored)?;
-    Ok(false)
+    is_open
 }
 
 /// Walks over block 0.
-pub(crate) fn walk_block(walk: &mut Walk) -> Result<(), Stop> {
-    if !walk_gate(walk)? {
-        return Ok(());
+pub(crate) fn walk_block(walk: &mut Walk) {
+    if walk_gate(walk) {
+        walk.pass(4, Is::Letters);
+        let version = walk.byte();
+        walk.pass(1, Is::Version(version));
+        let vars = walk.short();
+        walk.pass(2, Is::Vars(vars));
+        let slots = walk.short();
+        walk.pass(2, Is::Slots(slots));
+        walk.zeros_to(usize::MAX);
     }
-    walk.pass(4, Is::Letters)?;
-    let version = walk.byte()?;
-    walk.pass(1, Is::Version(version))?;
-    let vars = walk.short()?;
-    walk.pass(2, Is::Vars(vars))?;
-    let slots = walk.short()?;
-    walk.pass(2, Is::Slots(slots))?;
-    walk.zeros_to(usize::MAX)
 }
 
 /// Walks over an image copy of so many variables, which begins at a place.
-pub(crate) fn walk_image(walk: &mut Walk, at: usize, vars: u16) -> Result<(), Stop> {
-    if !walk_gate(walk)? {
-        return Ok(());
+pub(crate) fn walk_image(walk: &mut Walk, at: usize, vars: u16) {
+    if walk_gate(walk) {
+        walk_header(walk, at);
+        walk_values(walk, vars);
+        walk.zeros_to(usize::MAX);
     }
-    walk_header(walk, at)?;
-    walk_values(walk, vars)?;
-    walk.zeros_to(usize::MAX)
 }
 
 // The rest of the header of an image copy.
-fn walk_header(walk: &mut Walk, at: usize) -> Result<(), Stop> {
-    let generation = walk.number()?;
-    if generation == 0 {
-        return walk.wrong(FormatFlaw::NoGeneration);
-    }
-    walk.pass(8, Is::Generation(generation))?;
-    let count = walk.number()?;
-    walk.pass(8, Is::Count(count))?;
-    walk_registered(walk)?;
-    walk.zeros_to(at.saturating_add(MARK_AT))?;
-    let mark = walk.byte()?;
-    if Version::of_mark(mark).is_none() {
-        return walk.wrong(FormatFlaw::Mark);
-    }
-    walk.pass(1, Is::Mark(mark))
+fn walk_header(walk: &mut Walk, at: usize) {
+    let generation = walk.number();
+    walk.check(generation > 0, FormatFlaw::NoGeneration);
+    walk.pass(8, Is::Generation(generation));
+    let count = walk.number();
+    walk.pass(8, Is::Count(count));
+    walk_registered(walk);
+    walk.zeros_to(at.saturating_add(MARK_AT));
+    let mark = walk.byte();
+    walk.check(Version::of_mark(mark).is_some(), FormatFlaw::Mark);
+    walk.pass(1, Is::Mark(mark));
 }
 
 // The registered names, behind how many there are.
-fn walk_registered(walk: &mut Walk) -> Result<(), Stop> {
-    let count = walk.count(MAX_NAMES, FormatFlaw::TooManyNames)?;
-    walk.pass(1, Is::Names(count))?;
-    let mut last: Option<Name> = None;
+fn walk_registered(walk: &mut Walk) {
+    let count = walk.count(MAX_NAMES, FormatFlaw::TooManyNames);
+    walk.pass(1, Is::Names(count));
+    let mut last = None;
     for _ in 0..count {
-        let name = walk.name()?;
-        match last {
-            Some(last) if name <= last => return walk.wrong(FormatFlaw::NotAscending),
-            _ => {}
-        }
-        pass_name(walk, name)?;
-        last = Some(name);
+        let name = walk.name();
+        walk.check(name > last, FormatFlaw::NotAscending);
+        pass_name(walk, name);
+        last = name;
     }
-    Ok(())
 }
 
-fn pass_name(walk: &mut Walk, name: Name) -> Result<(), Stop> {
-    walk.pass(1 + name.as_bytes().len(), Is::Name(name))
+fn pass_name(walk: &mut Walk, name: Option<Name>) {
+    if let Some(name) = name {
+        walk.pass(1 + name.as_bytes().len(), Is::Name(name));
+    }
 }
 
 // The values: those that are not 0 one by one, and those that are 0 together.
-fn walk_values(walk: &mut Walk, vars: u16) -> Result<(), Stop> {
+fn walk_values(walk: &mut Walk, vars: u16) {
     let mut var = 0;
     while var < vars {
-        var = walk_value(walk, var, vars)?;
+        var = walk_value(walk, var, vars);
     }
-    Ok(())
 }
 
 // The value of a variable, or of that and those behind it where they are 0. Answers the variable behind them.
-fn walk_value(walk: &mut Walk, var: u16, vars: u16) -> Result<u16, Stop>
+fn walk_value(walk: &mut Walk, var: u16, vars: u16) -> u16
     requires { var < vars }
-    ensures behind { IfOk result (λ next. var < next) }
-    ensures within { IfOk result (λ next. next ≤ vars) }
+    ensures behind { var < result }
+    ensures within { result ≤ vars }
 {
-    let value = walk.value_behind(0)?;
+    let value = walk.value();
     if value != 0 {
-        walk.pass(8, Is::Value(var, value))?;
-        return Ok(var + 1);
+        walk.pass(8, Is::Value(var, value));
+        return var + 1;
     }
     let zeros = walk.zero_values(vars - var);
-    walk.pass(8 * zeros as usize, Is::ZeroValues(var, var + zeros - 1))?;
-    Ok(var + zeros)
+    walk.pass(8 * zeros as usize, Is::ZeroValues(var, var + zeros - 1));
+    var + zeros
 }
 
 /// Walks over a log slot whose batch is in the grammar of a version, for so many variables.
-pub(crate) fn walk_slot(walk: &mut Walk, vars: u16, version: Version) -> Result<(), Stop> {
-    if !walk_gate(walk)? {
-        return Ok(());
+pub(crate) fn walk_slot(walk: &mut Walk, vars: u16, version: Version) {
+    if walk_gate(walk) {
+        walk_generation(walk);
+        let first = walk.number();
+        walk.pass(8, Is::First(first));
+        walk_records(walk, vars, version);
+        walk.pass(usize::MAX, Is::Ignored);
     }
-    let generation = walk.number()?;
-    walk.pass(8, Is::Generation(generation))?;
-    let first = walk.number()?;
-    walk.pass(8, Is::First(first))?;
-    let count = walk.short()?;
+}
+
+fn walk_generation(walk: &mut Walk) {
+    let generation = walk.number();
+    walk.pass(8, Is::Generation(generation));
+}
+
+// The records of a batch, behind how many there are.
+fn walk_records(walk: &mut Walk, vars: u16, version: Version) {
+    let count = walk.short();
     if count == 0 || count as usize > MAX_RECORDS {
         return walk.wrong(FormatFlaw::Records);
     }
-    walk.pass(2, Is::Records(count))?;
+    walk.pass(2, Is::Records(count));
     for _ in 0..count {
-        walk_record(walk, vars, version)?;
+        walk_record(walk, vars, version);
     }
-    walk.pass(usize::MAX, Is::Ignored)
 }
 
 /// Walks over a log slot of which nothing but its generation counts.
-pub(crate) fn walk_stale(walk: &mut Walk) -> Result<(), Stop> {
-    if !walk_gate(walk)? {
-        return Ok(());
+pub(crate) fn walk_stale(walk: &mut Walk) {
+    if walk_gate(walk) {
+        walk_generation(walk);
+        walk.pass(usize::MAX, Is::Ignored);
     }
-    let generation = walk.number()?;
-    walk.pass(8, Is::Generation(generation))?;
-    walk.pass(usize::MAX, Is::Ignored)
 }
 
 // A record of a batch.
-fn walk_record(walk: &mut Walk, vars: u16, version: Version) -> Result<(), Stop> {
-    let writes = walk_writes(walk, vars)?;
+fn walk_record(walk: &mut Walk, vars: u16, version: Version) {
     let mut names = Vec::new(walk.alloc);
-    let checks = walk.count(MAX_CHECKS, FormatFlaw::TooManyChecks)?;
-    walk.pass(1, Is::Checks(checks))?;
-    walk_names(walk, checks, &mut names)?;
+    let writes = walk_writes(walk, vars);
+    let checks = walk.count(MAX_CHECKS, FormatFlaw::TooManyChecks);
+    walk.pass(1, Is::Checks(checks));
+    walk_names(walk, checks, &mut names);
     let retires = match version {
         Version::One => 0,
-        Version::Two => walk_retired(walk, &mut names)?,
+        Version::Two => walk_retired(walk, &mut names),
     };
-    if writes == 0 && checks == 0 && retires == 0 {
-        return walk.wrong(FormatFlaw::Nothing);
-    }
-    Ok(())
+    let changes = writes > 0 || checks > 0 || retires > 0;
+    walk.check(changes, FormatFlaw::Nothing);
 }
 
 // The writes of a record. Answers how many there are.
-fn walk_writes(walk: &mut Walk, vars: u16) -> Result<u8, Stop> {
-    let count = walk.count(MAX_WRITES, FormatFlaw::TooManyWrites)?;
-    walk.pass(1, Is::Writes(count))?;
+fn walk_writes(walk: &mut Walk, vars: u16) -> u8 {
+    let count = walk.count(MAX_WRITES, FormatFlaw::TooManyWrites);
+    walk.pass(1, Is::Writes(count));
     let mut written = Vec::new(walk.alloc);
     for _ in 0..count {
-        let var = walk.short()?;
-        if var >= vars {
-            return walk.wrong(FormatFlaw::Variable);
-        }
-        if written.contains(&var) {
-            return walk.wrong(FormatFlaw::Twice);
-        }
-        written.push(var)?;
-        let value = walk.value_behind(2)?;
-        walk.pass(10, Is::Write(var, value))?;
+        walk_write(walk, vars, &mut written);
     }
-    Ok(count)
+    count
+}
+
+// A write, to a variable that is none of those that were written. It is put there.
+fn walk_write(walk: &mut Walk, vars: u16, written: &mut Vec<u16>) {
+    let var = walk.short();
+    walk.check(var < vars, FormatFlaw::Variable);
+    walk.check(!written.contains(&var), FormatFlaw::Twice);
+    walk.need(written.push(var));
+    let value = walk.value_behind_short();
+    walk.pass(10, Is::Write(var, value));
 }
 
 // The retired names of a record, none of which may be among those that it checks. Answers how many there are.
-fn walk_retired(walk: &mut Walk, names: &mut Vec<Name>) -> Result<u8, Stop> {
-    let count = walk.count(MAX_RETIRES, FormatFlaw::TooManyRetires)?;
-    walk.pass(1, Is::Retires(count))?;
-    walk_names(walk, count, names)?;
-    Ok(count)
+fn walk_retired(walk: &mut Walk, names: &mut Vec<Name>) -> u8 {
+    let count = walk.count(MAX_RETIRES, FormatFlaw::TooManyRetires);
+    walk.pass(1, Is::Retires(count));
+    walk_names(walk, count, names);
+    count
 }
 
 // So many names, none of which may be among these. They are put there.
-fn walk_names(walk: &mut Walk, count: u8, names: &mut Vec<Name>) -> Result<(), Stop> {
+fn walk_names(walk: &mut Walk, count: u8, names: &mut Vec<Name>) {
     for _ in 0..count {
-        let name = walk.name()?;
-        if names.contains(&name) {
-            return walk.wrong(FormatFlaw::Twice);
-        }
-        names.push(name)?;
-        pass_name(walk, name)?;
+        walk_name(walk, names);
     }
-    Ok(())
+}
+
+fn walk_name(walk: &mut Walk, names: &mut Vec<Name>) {
+    let name = walk.name();
+    if let Some(name) = name {
+        walk.check(!names.contains(&name), FormatFlaw::Twice);
+        walk.need(names.push(name));
+    }
+    pass_name(walk, name);
 }

@@ -4,10 +4,10 @@ ghost use Rattle.std.specs.Prelude.{◌≤◌, ◌<◌};
 use crate::error::ShowError;
 use crate::fields::Field;
 use crate::look::{OpeningResult, PartRole, ShownStore, Walked, opening_without_block, too_short};
+use crate::printer::Printer;
 use crate::source::Source;
-use crate::text::{join, put};
 use std::alloc::Global;
-use std::io::{self, Write};
+use std::io::Write;
 use tmem_effect::Effect;
 use tmem_fault::{Fault, Name};
 use tmem_image::ImageState;
@@ -23,18 +23,41 @@ pub fn show_json<W: Write>(
     hex: bool,
     out: &mut W,
 ) -> Result<(), ShowError> {
-    write!(out, "{{\"size\":{},\"block\":", source.size)?;
+    let mut out = Printer::new(out);
+    let outcome = put_source(alloc, source, hex, &mut out);
+    out.end(outcome)
+}
+
+// The object and the end of its line.
+fn put_source<W: Write>(
+    alloc: Global,
+    source: &Source,
+    hex: bool,
+    out: &mut Printer<W>,
+) -> Result<(), Fault> {
+    out.put_number("{\"size\":", source.size);
+    out.put(",\"block\":");
     match block_of(&source.bytes) {
         Ok(block) => put_store(alloc, source, block, hex, out)?,
-        Err(wrong) => {
-            put(out, "{\"at\":0,")?;
-            put_wrong(out, wrong)?;
-            let opening = opening_without_block(alloc, source, wrong)?;
-            put(out, "}")?;
-            put_opening(out, &opening)?;
-        }
+        Err(wrong) => put_no_store(alloc, source, wrong, out)?,
     }
-    Ok(put(out, "}\n")?)
+    out.put("}\n");
+    Ok(())
+}
+
+// What is wrong with block 0, and what an opening finds.
+fn put_no_store<W: Write>(
+    alloc: Global,
+    source: &Source,
+    wrong: WrongByte,
+    out: &mut Printer<W>,
+) -> Result<(), Fault> {
+    out.put("{\"at\":0,");
+    put_wrong(out, wrong);
+    let opening = opening_without_block(alloc, source, wrong)?;
+    out.put("}");
+    put_opening(out, &opening);
+    Ok(())
 }
 
 // The parts of a store with this block 0.
@@ -43,17 +66,18 @@ fn put_store<W: Write>(
     source: &Source,
     block: Block,
     hex: bool,
-    out: &mut W,
-) -> Result<(), ShowError> {
+    out: &mut Printer<W>,
+) -> Result<(), Fault> {
     let Block { version, layout } = block;
-    put_block(out, version, layout)?;
+    put_block(out, version, layout);
     if (source.bytes.len() as u64) < layout.end() {
-        put(out, "}")?;
-        return Ok(put_opening(out, &too_short(source))?);
+        out.put("}");
+        put_opening(out, &too_short(source));
+        return Ok(());
     }
     match &ShownStore::new(alloc, &source.bytes, layout) {
         Ok(look) => put_parts(alloc, look, version, hex, out),
-        Err(fault) => Err(ShowError::Refused(*fault)),
+        Err(fault) => Err(*fault),
     }
 }
 
@@ -63,34 +87,33 @@ fn put_parts<W: Write>(
     look: &ShownStore,
     version: Version,
     hex: bool,
-    out: &mut W,
-) -> Result<(), ShowError> {
+    out: &mut Printer<W>,
+) -> Result<(), Fault> {
     if hex {
-        put_fields(look, &look.walk_block()?, out)?;
+        put_fields(look, &look.walk_block()?, out);
     }
     put_images(look, hex, out)?;
     put_slots(alloc, look, hex, out)?;
     let opening = look.opening(version)?;
-    Ok(put_opening(out, &opening)?)
+    put_opening(out, &opening);
+    Ok(())
 }
 
 // The start of block 0, up to the end of the layout.
-fn put_block<W: Write>(out: &mut W, version: Version, layout: Layout) -> io::Result<()> {
-    let (vars, slots) = (layout.vars, layout.slots);
-    let (number, end) = (version.number(), layout.end());
-    write!(
-        out,
-        "{{\"at\":0,\"version\":{number},\"vars\":{vars},\"slots\":{slots},\"end\":{end}"
-    )
+fn put_block<W: Write>(out: &mut Printer<W>, version: Version, layout: Layout) {
+    out.put_number("{\"at\":0,\"version\":", version.number().into());
+    out.put_number(",\"vars\":", layout.vars.into());
+    out.put_number(",\"slots\":", layout.slots.into());
+    out.put_number(",\"end\":", layout.end());
 }
 
 // The end of block 0, and the image copies.
-fn put_images<W: Write>(look: &ShownStore, hex: bool, out: &mut W) -> Result<(), ShowError> {
-    put(out, "},\"images\":[")?;
-    for copy in 0..2 {
-        put_image(look, copy, hex, out)?;
-    }
-    Ok(put(out, "]")?)
+fn put_images<W: Write>(look: &ShownStore, hex: bool, out: &mut Printer<W>) -> Result<(), Fault> {
+    out.put("},\"images\":[");
+    put_image(look, 0, hex, out)?;
+    put_image(look, 1, hex, out)?;
+    out.put("]");
+    Ok(())
 }
 
 // The log slots.
@@ -98,19 +121,20 @@ fn put_slots<W: Write>(
     alloc: Global,
     look: &ShownStore,
     hex: bool,
-    out: &mut W,
-) -> Result<(), ShowError> {
-    put(out, ",\"slots\":[")?;
+    out: &mut Printer<W>,
+) -> Result<(), Fault> {
+    out.put(",\"slots\":[");
     let mut records = Records::new(alloc)?;
     for k in 0..look.layout.slots {
         put_slot(look, k, &mut records, hex, out)?;
     }
-    Ok(put(out, "]")?)
+    out.put("]");
+    Ok(())
 }
 
 // What an opening finds, or its refusal, and where that comes from.
-fn put_opening<W: Write>(out: &mut W, opening: &OpeningResult) -> io::Result<()> {
-    put(out, ",\"recovery\":")?;
+fn put_opening<W: Write>(out: &mut Printer<W>, opening: &OpeningResult) {
+    out.put(",\"recovery\":");
     match opening {
         OpeningResult::Found(state) => put_state(out, state),
         OpeningResult::Refused(fault, wrong) => put_refusal(out, *fault, *wrong),
@@ -118,13 +142,19 @@ fn put_opening<W: Write>(out: &mut W, opening: &OpeningResult) -> io::Result<()>
 }
 
 // An image copy, behind a comma unless it is the first.
-fn put_image<W: Write>(look: &ShownStore, copy: u8, hex: bool, out: &mut W) -> Result<(), ShowError>
+fn put_image<W: Write>(
+    look: &ShownStore,
+    copy: u8,
+    hex: bool,
+    out: &mut Printer<W>,
+) -> Result<(), Fault>
     requires { copy ≤ 1 }
 {
     let walked = look.walk_image(copy)?;
-    begin(out, copy > 0, walked.at)?;
+    begin(out, copy > 0, walked.at);
     put_copy(look, copy, &walked, out)?;
-    Ok(end(look, &walked, hex, out)?)
+    end(look, &walked, hex, out);
+    Ok(())
 }
 
 // Whether it is open, and what it holds.
@@ -132,31 +162,30 @@ fn put_copy<W: Write>(
     look: &ShownStore,
     copy: u8,
     walked: &Walked,
-    out: &mut W,
-) -> Result<(), ShowError>
+    out: &mut Printer<W>,
+) -> Result<(), Fault>
     requires { copy ≤ 1 }
 {
-    let image = match look.image(copy)? {
-        Image::Closed => return Ok(put(out, "false")?),
-        image => image,
-    };
-    put_role(out, look.role_of_image(copy))?;
-    let shown = match image {
-        Image::Open(image) => put_head(out, &image),
-        _ => put_damage(out, walked),
-    };
-    Ok(shown?)
+    let role = look.role_of_image(copy);
+    match look.image(copy)? {
+        Image::Closed => out.put("false"),
+        Image::Damaged => put_damage(out, role, walked),
+        Image::Open(image) => put_head(out, role, &image),
+    }
+    Ok(())
 }
 
-fn put_head<W: Write>(out: &mut W, image: &ImageState) -> io::Result<()> {
-    let (version, generation) = (image.version.number(), image.generation);
-    let count = image.state.count();
-    write!(
-        out,
-        ",\"version\":{version},\"generation\":{generation},\"count\":{count},\"names\":["
-    )?;
-    join_quoted(out, image.state.names())?;
-    put(out, "]")
+fn put_head<W: Write>(out: &mut Printer<W>, role: PartRole, image: &ImageState) {
+    put_role(out, role);
+    out.put_number(",\"version\":", image.version.number().into());
+    out.put_number(",\"generation\":", image.generation);
+    put_reached(out, ",\"count\":", &image.state);
+}
+
+// The count of a state, behind a text, and its names.
+fn put_reached<W: Write>(out: &mut Printer<W>, before: &str, state: &State) {
+    out.put_number(before, state.count());
+    put_names(out, ",\"names\":[", state.names());
 }
 
 // A log slot, behind a comma unless it is the first.
@@ -165,125 +194,132 @@ fn put_slot<W: Write>(
     k: u16,
     records: &mut Records,
     hex: bool,
-    out: &mut W,
-) -> Result<(), ShowError>
+    out: &mut Printer<W>,
+) -> Result<(), Fault>
     requires { k < look.now.layout.slots }
 {
     let walked = look.walk_slot(k)?;
-    begin(out, k > 0, walked.at)?;
-    match look.slot(k, records) {
-        Slot::Closed => put(out, "false")?,
-        slot => put_open_slot(look.role_of_slot(k), slot, records, &walked, out)?,
-    }
-    Ok(end(look, &walked, hex, out)?)
+    begin(out, k > 0, walked.at);
+    let slot = look.slot(k, records);
+    put_content(out, look.role_of_slot(k), slot, records, &walked);
+    end(look, &walked, hex, out);
+    Ok(())
 }
 
-// What counts of a slot that is open, and its batch.
-fn put_open_slot<W: Write>(
+// Whether it is open, and what counts of it.
+fn put_content<W: Write>(
+    out: &mut Printer<W>,
     role: PartRole,
     slot: Slot,
     records: &Records,
     walked: &Walked,
-    out: &mut W,
-) -> io::Result<()> {
-    put_role(out, role)?;
+) {
     match (role, slot) {
-        (PartRole::Stale, _) | (_, Slot::Closed) => Ok(()),
-        (_, Slot::Open(head)) => put_batch(out, head, records),
-        (_, Slot::Damaged) => put_damage(out, walked),
+        (_, Slot::Closed) => out.put("false"),
+        (PartRole::Stale, _) => put_role(out, role),
+        (_, Slot::Open(head)) => put_batch(out, role, head, records),
+        (_, Slot::Damaged) => put_damage(out, role, walked),
     }
 }
 
 // The end of a part, with its bytes where they are asked for.
-fn end<W: Write>(look: &ShownStore, walked: &Walked, hex: bool, out: &mut W) -> io::Result<()> {
+fn end<W: Write>(look: &ShownStore, walked: &Walked, hex: bool, out: &mut Printer<W>) {
     if hex {
-        put_fields(look, walked, out)?;
+        put_fields(look, walked, out);
     }
-    put(out, "}")
+    out.put("}");
 }
 
 // The start of a part, up to whether it is open.
-fn begin<W: Write>(out: &mut W, is_later: bool, at: u64) -> io::Result<()> {
-    let comma = if is_later { "," } else { "" };
-    write!(out, "{comma}{{\"at\":{at},\"open\":")
+fn begin<W: Write>(out: &mut Printer<W>, is_later: bool, at: u64) {
+    let before = if is_later { ",{\"at\":" } else { "{\"at\":" };
+    out.put_number(before, at);
+    out.put(",\"open\":");
 }
 
 // That a part is open, and what counts of it.
-fn put_role<W: Write>(out: &mut W, role: PartRole) -> io::Result<()> {
-    let (counts, stale) = match role {
-        PartRole::Counts => (true, false),
-        PartRole::Stale => (false, true),
-        PartRole::Amiss => (false, false),
-    };
-    write!(out, "true,\"counts\":{counts},\"stale\":{stale}")
+fn put_role<W: Write>(out: &mut Printer<W>, role: PartRole) {
+    out.put(match role {
+        PartRole::Counts => "true,\"counts\":true,\"stale\":false",
+        PartRole::Stale => "true,\"counts\":false,\"stale\":true",
+        PartRole::Amiss => "true,\"counts\":false,\"stale\":false",
+    });
 }
 
 // The batch of a slot.
-fn put_batch<W: Write>(out: &mut W, head: Head, records: &Records) -> io::Result<()> {
-    let (generation, first) = (head.generation, head.first);
-    write!(
-        out,
-        ",\"generation\":{generation},\"first\":{first},\"records\":["
-    )?;
-    for (i, effect) in records.effects().iter().enumerate() {
-        put_record(out, i > 0, effect)?;
-    }
-    put(out, "]")
+fn put_batch<W: Write>(out: &mut Printer<W>, role: PartRole, head: Head, records: &Records) {
+    put_role(out, role);
+    out.put_number(",\"generation\":", head.generation);
+    out.put_number(",\"first\":", head.first);
+    out.put(",\"records\":[");
+    put_records(out, records.effects());
+    out.put("]");
 }
 
-// A record, behind a comma unless it is the first.
-fn put_record<W: Write>(out: &mut W, is_later: bool, effect: &Effect) -> io::Result<()> {
-    let comma = if is_later { "," } else { "" };
-    write!(out, "{comma}{{\"writes\":[")?;
-    for (i, (var, value)) in effect.writes.as_slice().iter().enumerate() {
-        let comma = if i > 0 { "," } else { "" };
-        write!(out, "{comma}[{var},{value}]")?;
+fn put_records<W: Write>(out: &mut Printer<W>, effects: &[Effect]) {
+    let mut before = "{\"writes\":[";
+    for effect in effects {
+        out.put(before);
+        put_record(out, effect);
+        before = ",{\"writes\":[";
     }
-    put(out, "],\"checks\":[")?;
-    join_quoted(out, effect.names.as_slice())?;
-    put(out, "],\"retires\":[")?;
-    join_quoted(out, effect.retired.as_slice())?;
-    put(out, "]}")
 }
 
-// Where a part that is open goes wrong.
-fn put_damage<W: Write>(out: &mut W, walked: &Walked) -> io::Result<()> {
+// A record, from its writes on.
+fn put_record<W: Write>(out: &mut Printer<W>, effect: &Effect) {
+    put_writes(out, effect.writes.as_slice());
+    put_names(out, "],\"checks\":[", effect.names.as_slice());
+    put_names(out, ",\"retires\":[", effect.retired.as_slice());
+    out.put("}");
+}
+
+fn put_writes<W: Write>(out: &mut Printer<W>, writes: &[(u16, i64)]) {
+    let mut before = "[";
+    for (var, value) in writes {
+        out.put_item(before, var);
+        out.put_item(",", value);
+        out.put("]");
+        before = ",[";
+    }
+}
+
+// That a part is open, and where it goes wrong.
+fn put_damage<W: Write>(out: &mut Printer<W>, role: PartRole, walked: &Walked) {
+    put_role(out, role);
+    out.put(",");
     match walked.wrong {
-        Some(wrong) => {
-            put(out, ",")?;
-            put_wrong(out, wrong)
-        }
-        None => put(out, ",\"wrong\":null"),
+        Some(wrong) => put_wrong(out, wrong),
+        None => out.put("\"wrong\":null"),
     }
 }
 
-fn put_wrong<W: Write>(out: &mut W, wrong: WrongByte) -> io::Result<()> {
-    write!(
-        out,
-        "\"wrong\":{{\"at\":{},\"why\":\"{}\"}}",
-        wrong.at, wrong.why
-    )
+fn put_wrong<W: Write>(out: &mut Printer<W>, wrong: WrongByte) {
+    out.put_number("\"wrong\":{\"at\":", wrong.at);
+    out.put_item(",\"why\":\"", &wrong.why);
+    out.put("\"}");
 }
 
 // The state that an opening finds.
-fn put_state<W: Write>(out: &mut W, state: &State) -> io::Result<()> {
-    write!(out, "{{\"count\":{},\"names\":[", state.count())?;
-    join_quoted(out, state.names())?;
-    put(out, "],\"values\":[")?;
-    join(out, state.values())?;
-    put(out, "]}")
+fn put_state<W: Write>(out: &mut Printer<W>, state: &State) {
+    put_reached(out, "{\"count\":", state);
+    out.put(",\"values\":[");
+    out.put_all(state.values());
+    out.put("]}");
 }
 
 // The refusal of an opening, and where it comes from.
-fn put_refusal<W: Write>(out: &mut W, fault: Fault, wrong: WrongByte) -> io::Result<()> {
+fn put_refusal<W: Write>(out: &mut Printer<W>, fault: Fault, wrong: WrongByte) {
     let (number, word) = number_and_word(fault);
-    write!(out, "{{\"fault\":{number},\"word\":\"{word}\",")?;
-    put_wrong(out, wrong)?;
-    put(out, "}")
+    out.put_number("{\"fault\":", number);
+    out.put(",\"word\":\"");
+    out.put(word);
+    out.put("\",");
+    put_wrong(out, wrong);
+    out.put("}");
 }
 
 // The number of a refusal of these bytes, and its word.
-fn number_and_word(fault: Fault) -> (u8, &'static str) {
+fn number_and_word(fault: Fault) -> (u64, &'static str) {
     match fault {
         Fault::NotFormatted => (8, "notformatted"),
         Fault::Damaged => (9, "damaged"),
@@ -293,30 +329,36 @@ fn number_and_word(fault: Fault) -> (u8, &'static str) {
     }
 }
 
-// The bytes of a part, field by field: the place, the bytes, and what they are.
-fn put_fields<W: Write>(look: &ShownStore, walked: &Walked, out: &mut W) -> io::Result<()> {
-    put(out, ",\"fields\":[")?;
-    for (i, field) in walked.fields.iter().enumerate() {
-        let comma = if i > 0 { "," } else { "" };
-        write!(out, "{comma}[{},\"", field.at)?;
-        put_hex(look, field, out)?;
-        write!(out, "\",\"{}\"]", field.is)?;
+// The bytes of a part, field by field.
+fn put_fields<W: Write>(look: &ShownStore, walked: &Walked, out: &mut Printer<W>) {
+    out.put(",\"fields\":[");
+    let mut before = "[";
+    for field in &walked.fields {
+        out.put_number(before, field.at);
+        put_field(look, field, out);
+        before = ",[";
     }
-    put(out, "]")
+    out.put("]");
 }
 
-fn put_hex<W: Write>(look: &ShownStore, field: &Field, out: &mut W) -> io::Result<()> {
+// The bytes of a field, and what they are.
+fn put_field<W: Write>(look: &ShownStore, field: &Field, out: &mut Printer<W>) {
+    out.put(",\"");
     for byte in look.bytes_of(field) {
-        write!(out, "{byte:02x}")?;
+        out.put_byte("", *byte);
     }
-    Ok(())
+    out.put_item("\",\"", &field.is);
+    out.put("\"]");
 }
 
-// Texts in quotes, with a comma between any two.
-fn join_quoted<W: Write>(out: &mut W, names: &[Name]) -> io::Result<()> {
-    for (i, name) in names.iter().enumerate() {
-        let comma = if i > 0 { "," } else { "" };
-        write!(out, "{comma}\"{name}\"")?;
+// Names in quotes, behind a text, with a comma between any two, and the end of their list.
+fn put_names<W: Write>(out: &mut Printer<W>, before: &str, names: &[Name]) {
+    out.put(before);
+    let mut before = "\"";
+    for name in names {
+        out.put_item(before, name);
+        out.put("\"");
+        before = ",\"";
     }
-    Ok(())
+    out.put("]");
 }

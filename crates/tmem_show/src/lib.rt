@@ -14,6 +14,7 @@ mod fields;
 mod json;
 mod log;
 mod look;
+mod printer;
 mod reason;
 mod refusal;
 mod source;

@@ -143,8 +143,8 @@ impl<'a> ShownStore<'a> {
     /// Walks over block 0.
     pub(crate) fn walk_block(&self) -> Result<Walked, Fault> {
         let mut walk = Walk::new(self.alloc, self.bytes, 0, BLOCK_BYTES);
-        let outcome = walk_block(&mut walk);
-        passed(0, walk, outcome)
+        walk_block(&mut walk);
+        passed(0, walk)
     }
 
     /// Walks over an image copy.
@@ -154,8 +154,8 @@ impl<'a> ShownStore<'a> {
         let at = self.layout.image(copy) as usize;
         let end = at + self.layout.image_size() as usize;
         let mut walk = Walk::new(self.alloc, self.bytes, at, end);
-        let outcome = walk_image(&mut walk, at, self.layout.vars);
-        passed(at, walk, outcome)
+        walk_image(&mut walk, at, self.layout.vars);
+        passed(at, walk)
     }
 
     /// Walks over a log slot.
@@ -164,11 +164,11 @@ impl<'a> ShownStore<'a> {
     {
         let at = self.layout.slot(k) as usize;
         let mut walk = Walk::new(self.alloc, self.bytes, at, at + SLOT_BYTES);
-        let outcome = match self.role_of_slot(k) {
+        match self.role_of_slot(k) {
             PartRole::Stale => walk_stale(&mut walk),
             _ => walk_slot(&mut walk, self.layout.vars, self.version),
-        };
-        passed(at, walk, outcome)
+        }
+        passed(at, walk)
     }
 
     /// What an opening finds, of a store that was formatted with this version.
@@ -229,10 +229,10 @@ pub(crate) fn too_short(source: &Source) -> OpeningResult
 }
 
 // What a walk passed, and where it stopped.
-fn passed(at: usize, walk: Walk, outcome: Result<(), Stop>) -> Result<Walked, Fault>
+fn passed(at: usize, walk: Walk) -> Result<Walked, Fault>
     ensures { IfErr result (λ fault. fault ≡ Fault.Memory) }
 {
-    let wrong = match outcome {
+    let wrong = match walk.outcome() {
         Ok(()) => None,
         Err(Stop::Wrong(wrong)) => Some(wrong),
         Err(Stop::Memory) => return Err(Fault::Memory),

@@ -42,7 +42,9 @@ fn first_wrong(
     };
     let at = layout.image(it.copy) as usize;
     let end = at + layout.image_size() as usize;
-    walk_image(&mut Walk::new(alloc, bytes, at, end), at, layout.vars)?;
+    let mut walk = Walk::new(alloc, bytes, at, end);
+    walk_image(&mut walk, at, layout.vars);
+    walk.outcome()?;
     let version = Version::of_mark(bytes[at + MARK_AT]).unwrap_or(Version::Two);
     if version.number() < formatted.number() {
         return Ok(amiss(at + MARK_AT, FormatFlaw::Earlier));
@@ -96,7 +98,8 @@ fn walk_on(
 {
     let at = layout.slot(k) as usize;
     let mut walk = Walk::new(alloc, bytes, at, at + SLOT_BYTES);
-    walk_slot(&mut walk, layout.vars, version)?;
+    walk_slot(&mut walk, layout.vars, version);
+    walk.outcome()?;
     if number_at(bytes, at + 9) != count {
         return Err(Stop::Wrong(amiss(at + 9, FormatFlaw::First)));
     }

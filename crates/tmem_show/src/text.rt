@@ -4,13 +4,14 @@ ghost use Rattle.std.specs.Prelude.{◌≤◌, ◌<◌};
 use crate::error::ShowError;
 use crate::fields::Field;
 use crate::look::{OpeningResult, PartRole, ShownStore, Walked, opening_without_block, too_short};
+use crate::printer::Printer;
 use crate::source::Source;
 use std::alloc::Global;
-use std::fmt::Display;
-use std::io::{self, Write};
+use std::io::Write;
 use tmem_effect::Effect;
+use tmem_fault::{Fault, Name};
 use tmem_image::ImageState;
-use tmem_parts::{Block, Image, Slot, block_of};
+use tmem_parts::{Block, Image, Slot, WrongByte, block_of};
 use tmem_record::{Head, Layout};
 use tmem_state::{Records, State, Version};
 
@@ -25,17 +26,27 @@ pub fn show<W: Write>(
     hex: bool,
     out: &mut W,
 ) -> Result<(), ShowError> {
-    writeln!(
-        out,
-        "{} bytes; if the store is in use, what was read may be half a flush",
-        source.size
-    )?;
+    let mut out = Printer::new(out);
+    let outcome = show_source(alloc, source, hex, &mut out);
+    out.end(outcome)
+}
+
+fn show_source<W: Write>(
+    alloc: Global,
+    source: &Source,
+    hex: bool,
+    out: &mut Printer<W>,
+) -> Result<(), Fault> {
+    out.put_number("", source.size);
+    out.put(" bytes; if the store is in use, what was read may be half a flush\n");
     match block_of(&source.bytes) {
         Ok(block) => show_store(alloc, source, block, hex, out),
         Err(wrong) => {
-            writeln!(out, "block 0 at 0: {wrong}")?;
+            out.put_item("block 0 at 0: ", &wrong);
+            out.put("\n");
             let opening = opening_without_block(alloc, source, wrong)?;
-            Ok(show_opening(out, &opening)?)
+            show_opening(out, &opening);
+            Ok(())
         }
     }
 }
@@ -46,16 +57,17 @@ fn show_store<W: Write>(
     source: &Source,
     block: Block,
     hex: bool,
-    out: &mut W,
-) -> Result<(), ShowError> {
+    out: &mut Printer<W>,
+) -> Result<(), Fault> {
     let Block { version, layout } = block;
-    show_block(out, version, layout)?;
+    show_block(out, version, layout);
     if (source.bytes.len() as u64) < layout.end() {
-        return Ok(show_opening(out, &too_short(source))?);
+        show_opening(out, &too_short(source));
+        return Ok(());
     }
     match &ShownStore::new(alloc, &source.bytes, layout) {
         Ok(look) => show_parts(alloc, look, version, hex, out),
-        Err(fault) => Err(ShowError::Refused(*fault)),
+        Err(fault) => Err(*fault),
     }
 }
 
@@ -65,36 +77,40 @@ fn show_parts<W: Write>(
     look: &ShownStore,
     version: Version,
     hex: bool,
-    out: &mut W,
-) -> Result<(), ShowError> {
+    out: &mut Printer<W>,
+) -> Result<(), Fault> {
     if hex {
-        show_fields(look, &look.walk_block()?, out)?;
+        show_fields(look, &look.walk_block()?, out);
     }
-    for copy in 0..2 {
-        show_image(look, copy, hex, out)?;
-    }
+    show_image(look, 0, hex, out)?;
+    show_image(look, 1, hex, out)?;
     show_slots(alloc, look, hex, out)?;
     let opening = look.opening(version)?;
-    Ok(show_opening(out, &opening)?)
+    show_opening(out, &opening);
+    Ok(())
 }
 
 // What block 0 says.
-fn show_block<W: Write>(out: &mut W, version: Version, layout: Layout) -> io::Result<()> {
-    let (vars, slots) = (layout.vars, layout.slots);
-    writeln!(
-        out,
-        "block 0 at 0: open, version {}, {vars} variables, {slots} log slots, {} bytes in all",
-        version.number(),
-        layout.end()
-    )
+fn show_block<W: Write>(out: &mut Printer<W>, version: Version, layout: Layout) {
+    out.put_number("block 0 at 0: open, version ", version.number().into());
+    out.put_number(", ", layout.vars.into());
+    out.put_number(" variables, ", layout.slots.into());
+    out.put_number(" log slots, ", layout.end());
+    out.put(" bytes in all\n");
 }
 
 // What an opening finds, or its refusal, and where that comes from.
-fn show_opening<W: Write>(out: &mut W, opening: &OpeningResult) -> io::Result<()> {
+fn show_opening<W: Write>(out: &mut Printer<W>, opening: &OpeningResult) {
     match opening {
         OpeningResult::Found(state) => show_state(out, state),
-        OpeningResult::Refused(fault, wrong) => writeln!(out, "recovery: {fault}, {wrong}"),
+        OpeningResult::Refused(fault, wrong) => show_refusal(out, fault, wrong),
     }
+}
+
+fn show_refusal<W: Write>(out: &mut Printer<W>, fault: &Fault, wrong: &WrongByte) {
+    out.put_item("recovery: ", fault);
+    out.put_item(", ", wrong);
+    out.put("\n");
 }
 
 // An image copy.
@@ -102,14 +118,22 @@ fn show_image<W: Write>(
     look: &ShownStore,
     copy: u8,
     hex: bool,
-    out: &mut W,
-) -> Result<(), ShowError>
+    out: &mut Printer<W>,
+) -> Result<(), Fault>
     requires { copy ≤ 1 }
 {
     let walked = look.walk_image(copy)?;
-    write!(out, "image {copy} at {}: ", walked.at)?;
+    begin(out, "image ", copy.into(), walked.at);
     show_copy(look, copy, &walked, out)?;
-    Ok(show_hex(look, &walked, hex, out)?)
+    show_hex(look, &walked, hex, out);
+    Ok(())
+}
+
+// The kind of a part, its number and where it is.
+fn begin<W: Write>(out: &mut Printer<W>, kind: &str, number: u64, at: u64) {
+    out.put_number(kind, number);
+    out.put_number(" at ", at);
+    out.put(": ");
 }
 
 // What it holds.
@@ -117,8 +141,8 @@ fn show_copy<W: Write>(
     look: &ShownStore,
     copy: u8,
     walked: &Walked,
-    out: &mut W,
-) -> Result<(), ShowError>
+    out: &mut Printer<W>,
+) -> Result<(), Fault>
     requires { copy ≤ 1 }
 {
     let role = match look.role_of_image(copy) {
@@ -126,23 +150,28 @@ fn show_copy<W: Write>(
         PartRole::Stale => "stale",
         PartRole::Amiss => "not chosen",
     };
-    let shown = match look.image(copy)? {
-        Image::Closed => put(out, "closed\n"),
+    match look.image(copy)? {
+        Image::Closed => out.put("closed\n"),
         Image::Damaged => show_wrong(out, role, walked),
         Image::Open(image) => show_open_image(out, role, &image),
-    };
-    Ok(shown?)
+    }
+    Ok(())
 }
 
-fn show_open_image<W: Write>(out: &mut W, role: &str, image: &ImageState) -> io::Result<()> {
-    let (version, generation) = (image.version.number(), image.generation);
-    let count = image.state.count();
-    write!(
-        out,
-        "open, {role}, version {version}, generation {generation}, count {count}, names="
-    )?;
-    join(out, image.state.names())?;
-    put(out, "\n")
+fn show_open_image<W: Write>(out: &mut Printer<W>, role: &str, image: &ImageState) {
+    show_open(out, role);
+    out.put_number(", version ", image.version.number().into());
+    out.put_number(", generation ", image.generation);
+    out.put_number(", count ", image.state.count());
+    out.put(", names=");
+    out.put_all(image.state.names());
+    out.put("\n");
+}
+
+// That a part is open, and what counts of it.
+fn show_open<W: Write>(out: &mut Printer<W>, role: &str) {
+    out.put("open, ");
+    out.put(role);
 }
 
 // The log slots.
@@ -150,8 +179,8 @@ fn show_slots<W: Write>(
     alloc: Global,
     look: &ShownStore,
     hex: bool,
-    out: &mut W,
-) -> Result<(), ShowError> {
+    out: &mut Printer<W>,
+) -> Result<(), Fault> {
     let mut records = Records::new(alloc)?;
     for k in 0..look.layout.slots {
         show_slot(look, k, &mut records, hex, out)?;
@@ -165,30 +194,29 @@ fn show_slot<W: Write>(
     k: u16,
     records: &mut Records,
     hex: bool,
-    out: &mut W,
-) -> Result<(), ShowError>
+    out: &mut Printer<W>,
+) -> Result<(), Fault>
     requires { k < look.now.layout.slots }
 {
     let walked = look.walk_slot(k)?;
-    write!(out, "slot {k} at {}: ", walked.at)?;
-    show_content(look, k, records, &walked, out)?;
-    Ok(show_hex(look, &walked, hex, out)?)
+    begin(out, "slot ", k.into(), walked.at);
+    let slot = look.slot(k, records);
+    show_content(out, look.role_of_slot(k), slot, records, &walked);
+    show_hex(look, &walked, hex, out);
+    Ok(())
 }
 
 // What it holds.
 fn show_content<W: Write>(
-    look: &ShownStore,
-    k: u16,
-    records: &mut Records,
+    out: &mut Printer<W>,
+    role: PartRole,
+    slot: Slot,
+    records: &Records,
     walked: &Walked,
-    out: &mut W,
-) -> io::Result<()>
-    requires { k < look.now.layout.slots }
-{
-    let slot = look.slot(k, records);
-    match (look.role_of_slot(k), slot) {
-        (_, Slot::Closed) => put(out, "closed\n"),
-        (PartRole::Stale, _) => put(out, "open, stale\n"),
+) {
+    match (role, slot) {
+        (_, Slot::Closed) => out.put("closed\n"),
+        (PartRole::Stale, _) => out.put("open, stale\n"),
         (PartRole::Counts, Slot::Open(head)) => show_batch(out, "in the log", head, records),
         (PartRole::Amiss, Slot::Open(head)) => show_batch(out, "not in the log", head, records),
         (PartRole::Counts, Slot::Damaged) => show_wrong(out, "in the log", walked),
@@ -197,105 +225,91 @@ fn show_content<W: Write>(
 }
 
 // The batch of a slot.
-fn show_batch<W: Write>(out: &mut W, role: &str, head: Head, records: &Records) -> io::Result<()> {
+fn show_batch<W: Write>(out: &mut Printer<W>, role: &str, head: Head, records: &Records) {
     let (generation, first) = (head.generation, head.first);
-    writeln!(
-        out,
-        "open, {role}, generation {generation}, first record {first}"
-    )?;
+    show_open(out, role);
+    out.put_number(", generation ", generation);
+    out.put_number(", first record ", first);
+    out.put("\n");
     for (i, effect) in records.effects().iter().enumerate() {
-        show_record(out, first.saturating_add(i as u64), effect)?;
+        show_record(out, first.saturating_add(i as u64), effect);
     }
-    Ok(())
 }
 
 // A record, by its number.
-fn show_record<W: Write>(out: &mut W, number: u64, effect: &Effect) -> io::Result<()> {
-    write!(out, "  record {number}:")?;
+fn show_record<W: Write>(out: &mut Printer<W>, number: u64, effect: &Effect) {
+    out.put_number("  record ", number);
+    out.put(":");
     for (var, value) in effect.writes.as_slice() {
-        write!(out, " {var}={value}")?;
+        out.put_item(" ", var);
+        out.put_item("=", value);
     }
-    for name in effect.names.as_slice() {
-        write!(out, " checks {name}")?;
+    show_names(out, " checks ", effect.names.as_slice());
+    show_names(out, " retires ", effect.retired.as_slice());
+    out.put("\n");
+}
+
+// Names, each behind this text.
+fn show_names<W: Write>(out: &mut Printer<W>, before: &str, names: &[Name]) {
+    for name in names {
+        out.put_item(before, name);
     }
-    for name in effect.retired.as_slice() {
-        write!(out, " retires {name}")?;
-    }
-    put(out, "\n")
 }
 
 // Where a part that is open goes wrong.
-fn show_wrong<W: Write>(out: &mut W, role: &str, walked: &Walked) -> io::Result<()> {
-    match walked.wrong {
-        Some(wrong) => writeln!(out, "open, {role}, damaged, {wrong}"),
-        None => writeln!(out, "open, {role}, damaged"),
+fn show_wrong<W: Write>(out: &mut Printer<W>, role: &str, walked: &Walked) {
+    show_open(out, role);
+    out.put(", damaged");
+    if let Some(wrong) = walked.wrong {
+        out.put_item(", ", &wrong);
     }
+    out.put("\n");
 }
 
 // The state that an opening finds, as `tmem run` prints it.
-fn show_state<W: Write>(out: &mut W, state: &State) -> io::Result<()> {
-    writeln!(out, "recovery: opened {}", state.count())?;
-    write!(out, "state count={} names=", state.count())?;
-    join(out, state.names())?;
-    put(out, " values=")?;
-    join(out, state.values())?;
-    put(out, "\n")
+fn show_state<W: Write>(out: &mut Printer<W>, state: &State) {
+    out.put_number("recovery: opened ", state.count());
+    out.put_number("\nstate count=", state.count());
+    out.put(" names=");
+    out.put_all(state.names());
+    out.put(" values=");
+    out.put_all(state.values());
+    out.put("\n");
 }
 
 // The bytes of a part, where they are asked for.
-fn show_hex<W: Write>(
-    look: &ShownStore,
-    walked: &Walked,
-    hex: bool,
-    out: &mut W,
-) -> io::Result<()> {
+fn show_hex<W: Write>(look: &ShownStore, walked: &Walked, hex: bool, out: &mut Printer<W>) {
     if hex {
-        show_fields(look, walked, out)
-    } else {
-        Ok(())
+        show_fields(look, walked, out);
     }
 }
 
 // The bytes of a part, field by field.
-fn show_fields<W: Write>(look: &ShownStore, walked: &Walked, out: &mut W) -> io::Result<()> {
-    for field in walked.fields.iter() {
-        show_field(look, field, out)?;
+fn show_fields<W: Write>(look: &ShownStore, walked: &Walked, out: &mut Printer<W>) {
+    for field in &walked.fields {
+        show_field(look, field, out);
     }
-    match walked.wrong {
-        Some(wrong) => writeln!(out, "  {wrong}"),
-        None => Ok(()),
+    if let Some(wrong) = walked.wrong {
+        out.put_item("  ", &wrong);
+        out.put("\n");
     }
 }
 
-fn show_field<W: Write>(look: &ShownStore, field: &Field, out: &mut W) -> io::Result<()> {
-    write!(out, "  {}:", field.at)?;
-    show_bytes(look.bytes_of(field), out)?;
-    writeln!(out, "  {}", field.is)
+fn show_field<W: Write>(look: &ShownStore, field: &Field, out: &mut Printer<W>) {
+    out.put_number("  ", field.at);
+    out.put(":");
+    show_bytes(look.bytes_of(field), out);
+    out.put_item("  ", &field.is);
+    out.put("\n");
 }
 
 // The first bytes of a field, and how many there are where those are not all.
-fn show_bytes<W: Write>(bytes: &[u8], out: &mut W) -> io::Result<()> {
+fn show_bytes<W: Write>(bytes: &[u8], out: &mut Printer<W>) {
     for byte in bytes.iter().take(MOST_SHOWN) {
-        write!(out, " {byte:02x}")?;
+        out.put_byte(" ", *byte);
     }
     if bytes.len() > MOST_SHOWN {
-        write!(out, " .. {} bytes", bytes.len())?;
+        out.put_number(" .. ", bytes.len() as u64);
+        out.put(" bytes");
     }
-    Ok(())
-}
-
-/// A text as it stands.
-pub(crate) fn put<W: Write>(out: &mut W, text: &str) -> io::Result<()> {
-    out.write_all(text.as_bytes())
-}
-
-// Texts, with a comma between any two.
-pub(crate) fn join<W: Write, T: Display>(out: &mut W, items: &[T]) -> io::Result<()> {
-    for (i, item) in items.iter().enumerate() {
-        if i > 0 {
-            put(out, ",")?;
-        }
-        write!(out, "{item}")?;
-    }
-    Ok(())
 }

@@ -1,5 +1,5 @@
 //! A walk over the bytes of a part, field by field.
-ghost use Rattle.std.specs.Prelude.{◌≡◌, ◌≤◌, ◌<◌, ◌+◌, ◌^◌, length};
+ghost use Rattle.std.specs.Prelude.{true, ◌≡◌, ◌≤◌, ◌<◌, ◌+◌, length};
 
 use crate::fields::{Field, Is};
 use std::alloc::{AllocFailed, Global};
@@ -9,7 +9,7 @@ use tmem_record::bytes::{number_at, short_at, value_at};
 use tmem_record::read_name;
 
 /// Why a walk ended before the end of its part.
-#[derive(Drop)]
+#[derive(Clone, Copy)]
 pub(crate) enum Stop {
     /// The bytes are not as the format says.
     Wrong(WrongByte),
@@ -17,13 +17,7 @@ pub(crate) enum Stop {
     Memory,
 }
 
-impl<T: Drop> From<AllocFailed<T>> for Stop {
-    fn from(_error: AllocFailed<T>) -> Stop {
-        Stop::Memory
-    }
-}
-
-/// A walk over a part of some bytes.
+/// A walk over a part of some bytes. Once it has stopped it passes nothing more, and each number that it reads is 0.
 #[derive(Drop)]
 pub(crate) struct Walk<'a> {
     pub(crate) alloc: Global,
@@ -32,6 +26,7 @@ pub(crate) struct Walk<'a> {
     end: usize,
     at: usize,
     fields: Vec<Field>,
+    stop: Option<Stop>,
     ghost within: { at ≤ end },
     ghost there: { end ≤ length bytes.now },
 }
@@ -48,6 +43,7 @@ impl<'a> Walk<'a> {
             end,
             at,
             fields: Vec::new(alloc),
+            stop: None,
         }
     }
 
@@ -56,62 +52,113 @@ impl<'a> Walk<'a> {
         self.fields
     }
 
+    /// Why it stopped, if it did.
+    pub(crate) fn outcome(&self) -> Result<(), Stop> {
+        match self.stop {
+            None => Ok(()),
+            Some(stop) => Err(stop),
+        }
+    }
+
+    /// Stops for this, unless it has stopped.
+    pub(crate) fn stop(&mut self, stop: Stop) {
+        if self.stop.is_none() {
+            self.stop = Some(stop);
+        }
+    }
+
+    /// Stops where a call found no memory.
+    pub(crate) fn need<T: Drop>(&mut self, outcome: Result<(), AllocFailed<T>>) {
+        if outcome.is_err() {
+            self.stop(Stop::Memory);
+        }
+    }
+
     /// Passes so many bytes as one field, or all that are left where they are fewer.
-    pub(crate) fn pass(&mut self, count: usize, is: Is) -> Result<(), Stop> {
+    pub(crate) fn pass(&mut self, count: usize, is: Is) {
+        if self.stop.is_some() {
+            return;
+        }
         let count = count.min(self.end - self.at);
-        self.fields.push(Field {
+        let field = Field {
             at: self.at as u64,
             length: count as u64,
             is,
-        })?;
+        };
         self.at += count;
-        Ok(())
+        let outcome = self.fields.push(field);
+        self.need(outcome);
     }
 
-    /// What is wrong with the next byte.
-    pub(crate) fn wrong<T>(&self, why: FormatFlaw) -> Result<T, Stop> {
-        self.wrong_behind(0, why)
+    /// Stops at the next byte, which is wrong.
+    pub(crate) fn wrong(&mut self, why: FormatFlaw) {
+        self.wrong_behind(0, why);
     }
 
-    /// What is wrong with the byte behind so many.
-    pub(crate) fn wrong_behind<T>(&self, count: usize, why: FormatFlaw) -> Result<T, Stop> {
-        Err(Stop::Wrong(WrongByte {
-            at: (self.at as u64).saturating_add(count as u64),
-            why,
-        }))
+    /// Stops at the next byte unless this holds.
+    pub(crate) fn check(&mut self, holds: bool, why: FormatFlaw) {
+        if !holds {
+            self.wrong(why);
+        }
+    }
+
+    // Stops at the byte behind so many.
+    fn wrong_behind(&mut self, count: usize, why: FormatFlaw) {
+        let at = (self.at as u64).saturating_add(count as u64);
+        self.stop(Stop::Wrong(WrongByte { at, why }));
+    }
+
+    // Whether so many bytes are left and it goes on. It stops at the end of the part where they are not.
+    fn has(&mut self, count: usize) -> bool
+        ensures has { result ≡ true → self.new.at + count ≤ self.new.end }
+    {
+        let left = self.end - self.at;
+        if left < count {
+            self.wrong_behind(left, FormatFlaw::Ends);
+            return false;
+        }
+        self.stop.is_none()
     }
 
     /// The next byte.
-    pub(crate) fn byte(&self) -> Result<u8, Stop> {
-        if self.at == self.end {
-            return self.wrong(FormatFlaw::Ends);
-        }
-        Ok(self.bytes[self.at])
+    pub(crate) fn byte(&mut self) -> u8 {
+        if self.has(1) { self.bytes[self.at] } else { 0 }
     }
 
     /// The number of the next two bytes.
-    pub(crate) fn short(&self) -> Result<u16, Stop> {
-        if self.end - self.at < 2 {
-            return self.wrong_behind(self.end - self.at, FormatFlaw::Ends);
+    pub(crate) fn short(&mut self) -> u16 {
+        if self.has(2) {
+            short_at(self.bytes, self.at)
+        } else {
+            0
         }
-        Ok(short_at(self.bytes, self.at))
     }
 
     /// The number of the next eight bytes.
-    pub(crate) fn number(&self) -> Result<u64, Stop> {
-        if self.end - self.at < 8 {
-            return self.wrong_behind(self.end - self.at, FormatFlaw::Ends);
+    pub(crate) fn number(&mut self) -> u64 {
+        if self.has(8) {
+            number_at(self.bytes, self.at)
+        } else {
+            0
         }
-        Ok(number_at(self.bytes, self.at))
     }
 
-    /// The value of eight bytes behind so many.
-    pub(crate) fn value_behind(&self, count: usize) -> Result<i64, Stop> {
-        let left = self.end - self.at;
-        if left < 8 || left - 8 < count {
-            return self.wrong_behind(left, FormatFlaw::Ends);
+    /// The value of the next eight bytes.
+    pub(crate) fn value(&mut self) -> i64 {
+        if self.has(8) {
+            value_at(self.bytes, self.at)
+        } else {
+            0
         }
-        Ok(value_at(self.bytes, self.at + count))
+    }
+
+    /// The value of the eight bytes behind the next two.
+    pub(crate) fn value_behind_short(&mut self) -> i64 {
+        if self.has(10) {
+            value_at(self.bytes, self.at + 2)
+        } else {
+            0
+        }
     }
 
     /// How many values of 0 come next, at most so many: where the next one is 0, at least it.
@@ -128,34 +175,34 @@ impl<'a> Walk<'a> {
     }
 
     /// The next byte as a count, which may be so much.
-    pub(crate) fn count(&self, most: usize, why: FormatFlaw) -> Result<u8, Stop> {
-        let count = self.byte()?;
+    pub(crate) fn count(&mut self, most: usize, why: FormatFlaw) -> u8 {
+        let count = self.byte();
         if count as usize > most {
-            return self.wrong(why);
+            self.wrong(why);
+            return 0;
         }
-        Ok(count)
+        count
     }
 
     /// The next name, behind its length.
-    pub(crate) fn name(&self) -> Result<Name, Stop> {
-        match read_name(&self.bytes[self.at..self.end]) {
-            Some(name) => Ok(name),
-            None => self.wrong(FormatFlaw::NoName),
-        }
+    pub(crate) fn name(&mut self) -> Option<Name> {
+        let name = read_name(&self.bytes[self.at..self.end]);
+        self.check(name.is_some(), FormatFlaw::NoName);
+        name
     }
 
     /// Passes zeros up to a place of the part.
-    pub(crate) fn zeros_to(&mut self, at: usize) -> Result<(), Stop> {
+    pub(crate) fn zeros_to(&mut self, at: usize) {
         let end = at.min(self.end);
         if end <= self.at {
-            return Ok(());
+            return;
         }
         let zeros = &self.bytes[self.at..end];
         let before = zeros_in(zeros);
         if before < zeros.len() {
-            return self.wrong_behind(before, FormatFlaw::NotZero);
+            self.wrong_behind(before, FormatFlaw::NotZero);
         }
-        self.pass(before, Is::Zeros)
+        self.pass(before, Is::Zeros);
     }
 }
 

@@ -23,7 +23,7 @@ use Rattle.tmem_spine.specs.History.{count}
 use Rattle.tmem_spine.specs.Views.{PassRoleView}
 use Rattle.tmem_seats.specs.Histories.{state_after_history, numbered}
 use Rattle.tmem_tree.specs.declared.tx.Tx.{Tx}
-use Rattle.tmem_front.specs.Settling.{SettlesPass, SettlesAtLast, SettlesDurably, SeesMore}
+use Rattle.tmem_seats.specs.Settling.{SettlesPass, SettlesAtLast, SettlesDurably, SeesMore}
 use Rattle.tmem_threads.specs.Counting.{AddsDurable, is_commit, once}
 
 -- the number of a transaction that was committed

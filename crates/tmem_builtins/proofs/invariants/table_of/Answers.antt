@@ -1,3 +1,4 @@
+use Rattle.std.proofs.lemmas.Grind.{common_steps}
 use Rattle.std.proofs.Common.{arith, ◌∙◌, ap}
 use Rattle.std.proofs.lemmas.Result.{IfOk-weaker}
 use Rattle.tmem_fault.specs.declared.fault.Fault.TheVariants.{Memory}
@@ -52,3 +53,21 @@ returns-in_ok-vec-in_default-clause-stated g c =
     (sum_meant _ _ _ (c.in_ok-pair.ensures.name ∙ c.sum_name.ensures) (ap (λ v. v.items) c.in_ok-pair.ensures.footprint ∙ c.in_ok-vec-2.ensures.items) (rw (← c.in_ok-pair.ensures.test) at c.requires.sum_stated))
     (ordered_meant _ _ _ (c.in_ok-order.ensures.name ∙ c.ordered_name.ensures) (ap (λ v. v.items) c.in_ok-order.ensures.footprint ∙ c.in_ok-vec-3.ensures.items) (rw (← c.in_ok-order.ensures.test) at c.requires.ordered_stated)))
     c.of-in_default.ensures.entries
+
+pub returns-in_err-vec-in_default-clause-vars : goal.returns-in_err-vec-in_default-clause-vars
+returns-in_err-vec-in_default-clause-vars g c = grind (arith, common_steps)
+
+pub returns-in_err-vec-in_default-clause-names : goal.returns-in_err-vec-in_default-clause-names
+returns-in_err-vec-in_default-clause-names g c = grind (arith, common_steps)
+
+pub returns-in_err-vec-in_default-clause-stated : goal.returns-in_err-vec-in_default-clause-stated
+returns-in_err-vec-in_default-clause-stated g c = grind (arith, common_steps)
+
+pub returns-in-0-clause-entries : goal.returns-in-0-clause-entries
+returns-in-0-clause-entries g c = grind (arith, common_steps)
+
+pub returns-in-0-clause-names : goal.returns-in-0-clause-names
+returns-in-0-clause-names g c = grind (arith, common_steps)
+
+pub returns-in_ok-vec-in-1-clause-entries : goal.returns-in_ok-vec-in-1-clause-entries
+returns-in_ok-vec-in-1-clause-entries g c = grind (arith, common_steps)

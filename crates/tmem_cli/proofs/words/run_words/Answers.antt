@@ -1,3 +1,4 @@
+use Rattle.std.proofs.lemmas.Grind.{common_steps}
 use Rattle.std.proofs.Common.{◌≡◌, ◌∙◌, ℕ, List, [], map, string_bytes, Option, Result, Ok, Err, inl, inr, subst, sym, arith}
 use Rattle.std.specs.Prelude.{MatchResult, OnOk}
 use Rattle.clap.specs.Kinds.{HasKind}
@@ -7,7 +8,7 @@ use Rattle.tmem_script.specs.Statuses.{status_of}
 use Rattle.tmem_script.specs.declared.failure.ProgramFailure.{ProgramFailure}
 use Rattle.tmem_script.specs.declared.failure.ProgramFailure.TheVariants as failure
 use Rattle.tmem_script.specs.declared.script.ScriptError.TheVariants as error
-use Rattle.tmem_cli.specs.Outcomes.{MayBeRead, PlaysRead}
+use Rattle.tmem_commands.specs.Outcomes.{MayBeRead, PlaysRead}
 use Rattle.tmem_run.specs.declared.playing.Played.{Played}
 use Rattle.tmem_cli.proofs.Outcomes.{FailsWith-along, is_there, no_request, of_failure, of_status, request_among}
 use Rattle.tmem_cli.proofs.words.run_words.Goals as goal
@@ -19,7 +20,7 @@ returns-in-Run-clause-stopped g c = λ one.
     let none = subst (λ ws. why_not_done (map string_bytes ws) ≡ []) same c.in-Ok.ensures.refused in
     let told = subst (λ ws. IsTold (map string_bytes ws) c.in-Ok.told) same c.in-Ok.ensures.told in
     let asked : IsAsked (map string_bytes c.args.words.items) (Run c.in-Run.paths) = subst (λ a. IsAsked (map string_bytes c.args.words.items) a) c.in-Run.is told.asked in
-    inr (inl ((none, asked.0), FailsWith-along 1 left _ _ _ _ _ asked.1 asked.2 (of_failure _ c.conclude.result c.run-outcome.result 1 (λ e. cc) c.conclude.ensures.status c.run-outcome.ensures.failed one)))
+    inr (inl ((none, asked.0), FailsWith-along 1 left _ _ _ _ _ asked.1 asked.2 (of_failure _ c.conclude.result c.run_script-outcome.result 1 (λ e. cc) c.conclude.ensures.status c.run_script-outcome.ensures.failed one)))
 
 pub returns-in-Run-clause-no_script : goal.returns-in-Run-clause-no_script
 returns-in-Run-clause-no_script g c = λ three.
@@ -28,7 +29,7 @@ returns-in-Run-clause-no_script g c = λ three.
     let none = subst (λ ws. why_not_done (map string_bytes ws) ≡ []) same c.in-Ok.ensures.refused in
     let told = subst (λ ws. IsTold (map string_bytes ws) c.in-Ok.told) same c.in-Ok.ensures.told in
     let asked : IsAsked (map string_bytes c.args.words.items) (Run c.in-Run.paths) = subst (λ a. IsAsked (map string_bytes c.args.words.items) a) c.in-Run.is told.asked in
-    inl ((none, asked.0), FailsWith-along 3 left _ _ _ _ _ asked.1 asked.2 (of_failure _ c.conclude.result c.run-outcome.result 3 (λ e. cc) c.conclude.ensures.status c.run-outcome.ensures.failed three))
+    inl ((none, asked.0), FailsWith-along 3 left _ _ _ _ _ asked.1 asked.2 (of_failure _ c.conclude.result c.run_script-outcome.result 3 (λ e. cc) c.conclude.ensures.status c.run_script-outcome.ensures.failed three))
 
 pub returns-in-Err-clause-done : goal.returns-in-Err-clause-done
 returns-in-Err-clause-done g c = λ none.
@@ -53,7 +54,7 @@ returns-in-Run-clause-withheld g c = λ asks some failed none.
     let same : c.as_slice.result.now ≡ c.args.words.items = c.as_slice.ensures.value in
     let told = subst (λ ws. IsTold (map string_bytes ws) c.in-Ok.told) same c.in-Ok.ensures.told in
     let asked : IsAsked (map string_bytes c.args.words.items) (Run c.in-Run.paths) = subst (λ a. IsAsked (map string_bytes c.args.words.items) a) c.in-Run.is told.asked in
-    of_status c.conclude.result c.run-outcome.result failed c.conclude.ensures.status (c.run-outcome.ensures.withheld (is_there c.in-Run.paths.disk _ asked.2 some)) none
+    of_status c.conclude.result c.run_script-outcome.result failed c.conclude.ensures.status (c.run_script-outcome.ensures.withheld (is_there c.in-Run.paths.disk _ asked.2 some)) none
 
 pub returns-in-Err-clause-withheld : goal.returns-in-Err-clause-withheld
 returns-in-Err-clause-withheld g c = λ asks some failed none.
@@ -107,4 +108,7 @@ returns-in-Run-clause-done g c = λ none.
     let no_fault = subst (λ ws. why_not_done (map string_bytes ws) ≡ []) same c.in-Ok.ensures.refused in
     let told = subst (λ ws. IsTold (map string_bytes ws) c.in-Ok.told) same c.in-Ok.ensures.told in
     let asked : IsAsked (map string_bytes c.args.words.items) (Run c.in-Run.paths) = subst (λ a. IsAsked (map string_bytes c.args.words.items) a) c.in-Run.is told.asked in
-    inr (inl ((no_fault, asked.0), PlaysRead-along left _ _ _ _ _ _ _ asked.1 asked.2 (of_done _ c.run-outcome.result c.conclude.ensures.status c.run-outcome.ensures.played none)))
+    inr (inl ((no_fault, asked.0), PlaysRead-along left _ _ _ _ _ _ _ asked.1 asked.2 (of_done _ c.run_script-outcome.result c.conclude.ensures.status c.run_script-outcome.ensures.played none)))
+
+pub returns-in-Err-clause-checked : goal.returns-in-Err-clause-checked
+returns-in-Err-clause-checked g c = grind (arith, common_steps)

@@ -1,4 +1,5 @@
-use Rattle.std.proofs.Common.{List, ◌++◌, ◌∷◌, [], ◌∙◌, ap, append_assoc, sym}
+use Rattle.std.proofs.lemmas.Grind.{common_steps}
+use Rattle.std.proofs.Common.{arith, List, ◌++◌, ◌∷◌, [], ◌∙◌, ap, append_assoc, sym}
 use Rattle.std.proofs.lemmas.List.{map_push}
 use Rattle.tmem_desk.specs.Told.{told_last}
 use Rattle.tmem_desk.specs.declared.told.Told.{Told}
@@ -13,3 +14,6 @@ loop-one-preserved c = record {
       ∙ (ap (λ (l : List Told). l ++ told_last c.args.durable c.args.fault.now c.in-Some.one ∷ []) c.loop-one.invariant.all
       ∙ sym (map_push (told_last c.args.durable c.args.fault.now) c.loop-one.yielded c.in-Some.one)));
 }
+
+pub returns : goal.returns
+returns c = grind (arith, common_steps)

@@ -1,6 +1,6 @@
 use Rattle.std.proofs.Common.{◌≡◌, ℕ, ℤ, Some, length, map, take}
 use Rattle.tmem_seats.specs.Histories.{state_after_history}
-use Rattle.tmem_front.specs.Refusing.{end_value}
+use Rattle.tmem_seats.specs.Refusing.{end_value}
 use Rattle.tmem_front.proofs.refusing.at_end.Given as goal
 
 -- one for each variable so far, with the value that it has at the end

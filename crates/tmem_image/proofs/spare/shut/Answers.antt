@@ -1,4 +1,5 @@
-use Rattle.std.proofs.Common.{ℕ, List, sym, ◌∙◌, ap}
+use Rattle.std.proofs.lemmas.Grind.{common_steps}
+use Rattle.std.proofs.Common.{arith, ℕ, List, sym, ◌∙◌, ap}
 use Rattle.std.specs.Prelude.{slice_get}
 use Rattle.tmem_gate.proofs.Laws.{closed_along}
 use Rattle.tmem_image.proofs.Spared.{while_shut, Spares-look}
@@ -28,3 +29,6 @@ pub returns-in-Err-sync-clause-spares : goal.returns-in-Err-sync-clause-spares
 returns-in-Err-sync-clause-spares g c =
     let it = c.close_if_open.ensures in
     Spares-look c.args.at 1 _ _ (g.met.D.Disk.is_device c.close_if_open.new.disk) (while_shut _ _ c.args.at (g.met.D.Disk.is_device c.args.disk.now) c.requires.settled it.call.model it.within it.idle) _ c.sync.ensures.uses.model c.sync.ensures.looks
+
+pub returns-in-Ok-clause-uses : goal.returns-in-Ok-clause-uses
+returns-in-Ok-clause-uses g c = grind (arith, common_steps)

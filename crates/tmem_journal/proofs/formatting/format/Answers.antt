@@ -1,3 +1,4 @@
+use Rattle.std.proofs.lemmas.Grind.{common_steps}
 use Rattle.std.proofs.Common.{◌+◌, ◌≤◌, ◌∙◌, arith}
 use Rattle.tmem_record.specs.Layout.{IsLayout, end_at}
 use Rattle.tmem_gate.proofs.Laws.{WritesWithin-wider, WritesWithin-trans}
@@ -32,3 +33,9 @@ returns-clause-stands g c =
     on_ok_2 (λ written synced. formatted_device c.args.vars c.args.slots layout _ _
     (λ k. written k ∙ same_rest _ _ c.args.vars c.args.slots c.end-end.result _ _ vars slots c.end-end.ensures (c.in_ok-erase.ensures.zeros (c.build.ensures.uses.model k))) synced)
     c.build.result c.build.ensures.written c.build.ensures.durable
+
+pub returns-in_err-layout-clause-elsewhere : goal.returns-in_err-layout-clause-elsewhere
+returns-in_err-layout-clause-elsewhere g c = grind (arith, common_steps)
+
+pub returns-then-size-end-clause-elsewhere : goal.returns-then-size-end-clause-elsewhere
+returns-then-size-end-clause-elsewhere g c = grind (arith, common_steps)

@@ -1,3 +1,4 @@
+use Rattle.std.proofs.lemmas.Grind.{common_steps}
 use Rattle.std.proofs.Common.{◌≡◌, sym, subst, arith}
 use Rattle.tmem_disk.proofs.Laws.{LeavesOnly-synced}
 use Rattle.tmem_state.specs.declared.version.Version.TheVariants.{Two}
@@ -70,3 +71,12 @@ returns-clause-migrates g c = λ k p s stands.
     let copy = one_copy layout.vars layout.slots (omega (arith, layout.fits.vars_fit)) (position_at found.version found.copy found.log) p found.state s old.seen (it.found mid) stands in
     subst (λ n. SameBesideCopy layout.vars layout.slots (other_copy n) old.seen new.seen) copy
     (SameBesideCopy-after layout.vars layout.slots (other_copy found.copy) _ _ _ (it.mends.seen mid) (c.migrate.ensures.beside k))
+
+pub returns-clause-uses : goal.returns-clause-uses
+returns-clause-uses g c = grind (arith, common_steps)
+
+pub returns-clause-refused_looks : goal.returns-clause-refused_looks
+returns-clause-refused_looks g c = grind (arith, common_steps)
+
+pub returns-clause-sized : goal.returns-clause-sized
+returns-clause-sized g c = grind (arith, common_steps)

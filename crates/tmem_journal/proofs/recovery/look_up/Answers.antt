@@ -1,4 +1,5 @@
-use Rattle.std.proofs.Common.{◌≤◌, sym, ◌∙◌}
+use Rattle.std.proofs.lemmas.Grind.{common_steps}
+use Rattle.std.proofs.Common.{arith, ◌≤◌, sym, ◌∙◌}
 use Rattle.std.proofs.lemmas.Bool.{false≢true}
 use Rattle.std.proofs.lemmas.Result.{err_from_is_err_and}
 use Rattle.tmem_fault.specs.declared.fault.Fault.TheVariants.{Damaged}
@@ -112,3 +113,6 @@ returns-clause-found g c = λ k.
     let s4 = (g.D.Disk.view c.load.new.disk).seen in
     ∣ all_found c.args.layout.vars c.args.layout.slots c.in_ok-copy.copy seen s1 s2 s3 (c.sync.ensures.looks.seen m1) (c.found_block.ensures.looks.seen m2) (c.choose.ensures.looks.seen m3) c.in_ok-version.field-0.version c.in_ok-version.field-0.generation c.in_ok-version.field-0.state s4 (c.load.ensures.looks.seen m4)
     c.in_ok-block.block _ c.in_ok-log.log (c.may_follow.ensures.0 c.if-not-may_follow.false) c.in_ok-copy.ensures.one c.in_ok-log.ensures.generation (c.in_ok-block.ensures.found m2) (c.in_ok-copy.ensures.found m3) (c.in_ok-version.ensures.found m4) (c.in_ok-log.ensures.found k) ∣₁
+
+pub returns-in_err-log-clause-found : goal.returns-in_err-log-clause-found
+returns-in_err-log-clause-found g c = grind (arith, common_steps)

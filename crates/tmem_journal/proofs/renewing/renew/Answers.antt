@@ -1,4 +1,5 @@
-use Rattle.std.proofs.Common.{◌-◌, ◌+◌, refl, inl, inr, rules}
+use Rattle.std.proofs.lemmas.Grind.{common_steps}
+use Rattle.std.proofs.Common.{arith, ◌-◌, ◌+◌, refl, inl, inr, rules}
 use Rattle.tmem_gate.specs.Changes.{call_outcome}
 use Rattle.tmem_journal.specs.Contents.{position_at}
 use Rattle.tmem_journal.proofs.FormattedContent.{on_ok}
@@ -101,3 +102,6 @@ pub returns-clause-beside : goal.returns-clause-beside
 returns-clause-beside g c = λ k.
     let layout = c.args.layout in
     beside_emptied layout.vars layout.slots (1 - c.args.copy) (c.args.log.now.generation + 1) (other_one c.args.copy) _ _ _ (c.write_spare.ensures.puts.elsewhere.seen (c.empty.ensures.uses.model k)) (c.empty.ensures.closes.seen k)
+
+pub returns-clause-uses : goal.returns-clause-uses
+returns-clause-uses g c = grind (arith, common_steps)

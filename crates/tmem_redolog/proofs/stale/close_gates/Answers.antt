@@ -1,3 +1,4 @@
+use Rattle.std.proofs.lemmas.Grind.{common_steps}
 use Rattle.std.proofs.Common.{◌≡◌, ◌⊎◌, inl, inr, ◌+◌, ◌<◌, ◌≤◌, true, false, refl, rules, subst, sym, arith}
 use Rattle.tmem_gate.specs.Gate.{IsClosed}
 use Rattle.tmem_gate.proofs.Laws.{LooksOnly-refl, LooksOnly-trans}
@@ -73,3 +74,12 @@ returns-clause-closes g c = λ generation.
 
 pub returns-clause-idle : goal.returns-clause-idle
 returns-clause-idle g c = λ shut. looks_given _ _ (idle_so_far c.args.layout.vars c.args.layout.slots c.args.from c.loop-k.k _ _ c.loop-k.any (omega arith) c.loop-k.invariant shut)
+
+pub returns-in_err-closed-clause-call : goal.returns-in_err-closed-clause-call
+returns-in_err-closed-clause-call g c = grind (arith, common_steps)
+
+pub returns-in_err-closed-clause-looks : goal.returns-in_err-closed-clause-looks
+returns-in_err-closed-clause-looks g c = grind (arith, common_steps)
+
+pub returns-clause-closed : goal.returns-clause-closed
+returns-clause-closed g c = grind (arith, common_steps)

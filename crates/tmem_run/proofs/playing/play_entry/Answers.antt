@@ -1,4 +1,5 @@
-use Rattle.std.proofs.Common.{ℕ, refl, sym, ap, subst, ◌∷◌, []}
+use Rattle.std.proofs.lemmas.Grind.{common_steps}
+use Rattle.std.proofs.Common.{arith, ℕ, refl, sym, ap, subst, ◌∷◌, []}
 use Rattle.std.specs.Prelude.{OnOk}
 use Rattle.std.specs.Io.KnownBytes.{Appends}
 use Rattle.std.proofs.lemmas.Result.{on_ok_weaker}
@@ -54,3 +55,6 @@ returns-in-Show-clause-chain g c =
       go_on-show program w (g.met.D.Disk.is_device (world_disk w)) h m has,
       on_ok_weaker c.print_state.result (λ wrote. subst (λ (v : ℕ). Appends before after (line (shown v m.session (present program m)))) (sym c.requires) (wrote program m has.point)) c.print_state.ensures.shown,
     ))
+
+pub returns-in-Show-clause-elsewhere : goal.returns-in-Show-clause-elsewhere
+returns-in-Show-clause-elsewhere g c = grind (arith, common_steps)

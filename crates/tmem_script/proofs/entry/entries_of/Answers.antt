@@ -1,4 +1,5 @@
-use Rattle.std.proofs.Common.{◌≡◌, List, map, All}
+use Rattle.std.proofs.lemmas.Grind.{common_steps}
+use Rattle.std.proofs.Common.{arith, ◌≡◌, List, map, All}
 use Rattle.serde_json.specs.View.{view}
 use Rattle.tmem_script.specs.Scripts.{IsEntry, EntryInRange, entry_form}
 use Rattle.tmem_forms.specs.TxForms.{array_of}
@@ -15,3 +16,6 @@ returns-in_err-entry_of-clause-refused c =
     no_items_at entry_form EntryInRange items c.loop-item.item-index c.item-item.result c.loop-item-test.true c.item-item.is
     (λ entry fits form. none entry (record { form = form; in_range = fits })) entries all
     (items_of_body c.args.value c.in-Array.items items (map entry_form entries) c.in-Array.is c.deref-item-items.ensures.value is))
+
+pub loop-item-preserved : goal.loop-item-preserved
+loop-item-preserved c = grind (arith, common_steps)

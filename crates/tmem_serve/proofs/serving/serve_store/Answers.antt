@@ -1,4 +1,5 @@
-use Rattle.std.proofs.Common.{ℕ, List, None, option_map, inr, subst, refl, sym, ap, ◌≡◌, ◌∙◌}
+use Rattle.std.proofs.lemmas.Grind.{common_steps}
+use Rattle.std.proofs.Common.{arith, ℕ, List, None, option_map, inr, subst, refl, sym, ap, ◌≡◌, ◌∙◌}
 use Rattle.tmem_invariants.specs.Meanings.{IsSound}
 use Rattle.tmem_journal.specs.Held.{disk_of}
 use Rattle.tmem_opening.specs.Held.{opening_position}
@@ -77,3 +78,6 @@ returns-in-Err-serve_opened-clause-ended g c =
     } in
     let kept : first_unregistered it.opening.names c.args.served.always.now ≡ None = sym c.unregistered.ensures ∙ ap (option_map (λ name. name.now)) c.in-None.is in
     inr (it, opens, kept, c.in-Err-serve_opened.ensures.stopped)
+
+pub returns-in-Ok-serve_opened-clause-whole : goal.returns-in-Ok-serve_opened-clause-whole
+returns-in-Ok-serve_opened-clause-whole g c = grind (arith, common_steps)

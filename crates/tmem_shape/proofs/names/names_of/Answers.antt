@@ -1,3 +1,4 @@
+use Rattle.std.proofs.lemmas.Grind.{common_steps}
 use Rattle.std.proofs.Common.{◌≡◌, ℕ, Some, map, String, Global, sym, ap, ◌∙◌, subst, arith}
 use Rattle.serde_json.specs.View.{view, members_view}
 use Rattle.tmem_fault.specs.Distinct.{AreDistinct}
@@ -18,3 +19,6 @@ returns-in-Some-first_repeated-clause-refused c = λ names has.
     let same = names_same read names (sym c.in_ok-names.ensures.ok ∙ all) in
     let variables = c.deref-2.ensures.value ∙ c.in_ok-variables.ensures ∙ ap (map (λ (n : String Global × ℕ). n.1)) c.deref.ensures.value ∙ same in
     c.in-Some-first_repeated.ensures.distinct (subst AreDistinct (sym variables) has.distinct)
+
+pub index-requires : goal.index-requires
+index-requires c = grind (arith, common_steps)

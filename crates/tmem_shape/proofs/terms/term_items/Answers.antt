@@ -1,3 +1,4 @@
+use Rattle.std.proofs.lemmas.Grind.{common_steps}
 use Rattle.std.proofs.Common.{◌≡◌, Some, sym, ◌∙◌, arith}
 use Rattle.std.proofs.lemmas.Bool.{false≢true}
 use Rattle.serde_json.specs.View.{view}
@@ -16,3 +17,9 @@ returns-clause-none c = λ none.
           (w.index-then-len-eq3.result.now, w.index-then-len-eq3.ensures, λ said. false≢true (sym w.if-says_nonzero.false ∙ w.says_nonzero.ensures.1 said))
       | else-len-eq3-via-else-len-eq3 w ↦ absurd (w.if-len-eq3.false (omega (arith, c.len-2.ensures, three)))
     ])
+
+pub returns-then-len-eq2-clause-some : goal.returns-then-len-eq2-clause-some
+returns-then-len-eq2-clause-some c = grind (arith, common_steps)
+
+pub returns-then-says_nonzero-clause-some : goal.returns-then-says_nonzero-clause-some
+returns-then-says_nonzero-clause-some c = grind (arith, common_steps)

@@ -1,4 +1,5 @@
-use Rattle.std.proofs.Common.{◌≡◌, length, replicate, ap, ◌∙◌, rules}
+use Rattle.std.proofs.lemmas.Grind.{common_steps}
+use Rattle.std.proofs.Common.{arith, ◌≡◌, length, replicate, ap, ◌∙◌, rules}
 use Rattle.std.proofs.lemmas.List.{length-replicate}
 use Rattle.tmem_tables.proofs.Touching.{touching-none}
 use Rattle.tmem_tables.proofs.by_variable.indices_by_variable.Goals as goal
@@ -10,3 +11,9 @@ loop-index-init g c =
       long = ap length empty ∙ length-replicate c.args.vars 0;
       touching = λ var index. rw empty (touching-none c.args.vars var index);
     }
+
+pub loop-index-preserved : goal.loop-index-preserved
+loop-index-preserved g c = grind (arith, common_steps)
+
+pub returns-clause-touching : goal.returns-clause-touching
+returns-clause-touching g c = grind (arith, common_steps)

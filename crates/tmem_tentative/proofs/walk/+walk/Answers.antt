@@ -1,3 +1,4 @@
+use Rattle.std.proofs.lemmas.Grind.{common_steps}
 use Rattle.std.proofs.Common.{ℕ, ◌+◌, ◌≤◌, arith, drop}
 use Rattle.tmem_tree.proofs.Laws.{count-Seq}
 use Rattle.tmem_tree.specs.Limits.{is_write, is_check, is_retire, has_bad_register, has_bad_step, has_bad_arguments, lacks_shape}
@@ -120,3 +121,9 @@ walk-returns-in_err-flow-in-OrElse-clause-retired g t c =
 pub walk-returns-in-Retry-clause-retired : goal.walk-returns-in-Retry-clause-retired
 walk-returns-in-Retry-clause-retired g t c =
     rw c.in-OrElse.is (in_both _ _ _ _ _ _ (rw c.deref-in-OrElse.ensures at c.walk_first.ensures.retired) (rw c.deref-in-Retry.ensures at c.walk-in-Retry.ensures.retired))
+
+pub walk-loop-t-preserved : goal.walk-loop-t-preserved
+walk-loop-t-preserved g t c = grind (arith, common_steps)
+
+pub walk-returns-then-log-reg-eq0-clause-flow : goal.walk-returns-then-log-reg-eq0-clause-flow
+walk-returns-then-log-reg-eq0-clause-flow g t c = grind (arith, common_steps)

@@ -1,3 +1,4 @@
+use Rattle.std.proofs.lemmas.Grind.{common_steps}
 use Rattle.std.proofs.Common.{◌≡◌, ◌+◌, ◌<◌, true, false, List, [], drop, get_or, length, length-drop, refl, sym, ap, ◌∙◌, arith, rules}
 use Rattle.std.proofs.lemmas.List.{drop_all, drop-drop, get_or-drop}
 use Rattle.tmem_effect.specs.declared.effect.Effect.{Effect}
@@ -129,3 +130,6 @@ walk_on-returns-in_default-clause-runs g t c =
 pub walk_part-returns-then-is_leaf-clause-runs : goal.walk_part-returns-then-is_leaf-clause-runs
 walk_part-returns-then-is_leaf-clause-runs g t c =
     leaf_runs c.args.course.now.attempt c.act.new.course.attempt c.requires c.act.ensures.leaf c.act.ensures.path c.act.ensures.room c.act.ensures.names c.act.ensures.retired c.act.ensures.stays c.act.ensures.leads
+
+pub walk_on-overflow_add-from : goal.walk_on-overflow_add-from
+walk_on-overflow_add-from g t c = grind (arith, common_steps)

@@ -1,3 +1,4 @@
+use Rattle.std.proofs.lemmas.Grind.{common_steps}
 use Rattle.std.proofs.Common.{sym, ap, ◌∙◌, map, arith, option_to_list}
 use Rattle.tmem_effect.proofs.Laws.{length-without_name-le}
 use Rattle.tmem_tree.specs.Run.{register}
@@ -29,3 +30,6 @@ returns-in-Step-clause-leads g c = λ m footprint stated of saves.
 
 pub returns-in-Retire-clause-names : goal.returns-in-Retire-clause-names
 returns-in-Retire-clause-names g c = grind (arith, length-without_name-le)
+
+pub call-requires-clause-given : goal.call-requires-clause-given
+call-requires-clause-given g c = grind (arith, common_steps)

@@ -1,3 +1,4 @@
+use Rattle.std.proofs.lemmas.Grind.{common_steps}
 use Rattle.std.proofs.Common.{◌≡◌, false, refl, sym, ap, ◌∙◌, arith}
 use Rattle.tmem_tree.specs.Limits.{one_if, count, is_node, is_write, is_check, is_retire, is_step}
 use Rattle.tmem_tree.specs.Shapes.{names_of}
@@ -142,3 +143,42 @@ returns-in_ok-left-in-OrElse-clause-lacking g t c = λ none deep nodes writes ch
     let two = or_else_two c.args.tx.now c.in-OrElse.first c.in-OrElse.second c.in-OrElse.is in
     let bad = is_bad (g.S.StoredSteps.arities c.args.steps.now) c.args.vars (names_of c.args.shapes.now) in
     (rw c.deref-in-OrElse-2.ensures at c.pay-in-OrElse-2.ensures.lacking) none (two.second_shallow c.args.most deep) (omega (arith, two.counts is_node, c.in_ok-left.ensures.nodes, rw c.deref-in-OrElse.ensures at c.in_ok-left-in-OrElse.ensures.nodes, nodes)) (omega (arith, two.counts is_write, c.in_ok-left.ensures.writes, rw c.deref-in-OrElse.ensures at c.in_ok-left-in-OrElse.ensures.writes, writes)) (omega (arith, two.counts is_check, c.in_ok-left.ensures.checks, rw c.deref-in-OrElse.ensures at c.in_ok-left-in-OrElse.ensures.checks, checks)) (omega (arith, two.counts is_retire, c.in_ok-left.ensures.retires, rw c.deref-in-OrElse.ensures at c.in_ok-left-in-OrElse.ensures.retires, retires)) (omega (arith, two.counts is_step, c.in_ok-left.ensures.steps, rw c.deref-in-OrElse.ensures at c.in_ok-left-in-OrElse.ensures.steps, steps)) (omega (arith, two.counts bad, good))
+
+pub returns-in_err-left-clause-retires : goal.returns-in_err-left-clause-retires
+returns-in_err-left-clause-retires g t c = grind (arith, common_steps)
+
+pub returns-in_err-left-clause-steps : goal.returns-in_err-left-clause-steps
+returns-in_err-left-clause-steps g t c = grind (arith, common_steps)
+
+pub returns-in_err-left-clause-lacking : goal.returns-in_err-left-clause-lacking
+returns-in_err-left-clause-lacking g t c = grind (arith, common_steps)
+
+pub returns-in_err-left-in-Seq-clause-lacking : goal.returns-in_err-left-in-Seq-clause-lacking
+returns-in_err-left-in-Seq-clause-lacking g t c = grind (arith, common_steps)
+
+pub loop-t-preserved : goal.loop-t-preserved
+loop-t-preserved g t c = grind (arith, common_steps)
+
+pub returns-in_err-left-in-OrElse-clause-checks : goal.returns-in_err-left-in-OrElse-clause-checks
+returns-in_err-left-in-OrElse-clause-checks g t c = grind (arith, common_steps)
+
+pub returns-after-loop-t-clause-shallow : goal.returns-after-loop-t-clause-shallow
+returns-after-loop-t-clause-shallow g t c = grind (arith, common_steps)
+
+pub returns-after-loop-t-clause-nodes : goal.returns-after-loop-t-clause-nodes
+returns-after-loop-t-clause-nodes g t c = grind (arith, common_steps)
+
+pub returns-after-loop-t-clause-writes : goal.returns-after-loop-t-clause-writes
+returns-after-loop-t-clause-writes g t c = grind (arith, common_steps)
+
+pub returns-after-loop-t-clause-checks : goal.returns-after-loop-t-clause-checks
+returns-after-loop-t-clause-checks g t c = grind (arith, common_steps)
+
+pub returns-after-loop-t-clause-retires : goal.returns-after-loop-t-clause-retires
+returns-after-loop-t-clause-retires g t c = grind (arith, common_steps)
+
+pub returns-after-loop-t-clause-steps : goal.returns-after-loop-t-clause-steps
+returns-after-loop-t-clause-steps g t c = grind (arith, common_steps)
+
+pub returns-after-loop-t-clause-good : goal.returns-after-loop-t-clause-good
+returns-after-loop-t-clause-good g t c = grind (arith, common_steps)

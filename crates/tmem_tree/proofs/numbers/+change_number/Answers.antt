@@ -1,3 +1,4 @@
+use Rattle.std.proofs.lemmas.Grind.{common_steps}
 use Rattle.std.proofs.Common.{◌≡◌, ◌∙◌, sym, ap, set, refl, length-set, to_z, of_z, w64, rules, arith}
 use Rattle.std.proofs.lemmas.List.{drop_more, drop_all}
 use Rattle.tmem_tree.specs.declared.tx.Tx.TheViews.{the_lemmas}
@@ -36,3 +37,12 @@ returns-after-loop-t-clause-left t c =
     let listed = c.deref_mut-t-items.ensures.value ∙ ap (λ v. v.items) c.in-Seq.txs-is in
     let rest = ap (count_items is_put) (drop_all c.loop-t.t-index c.loop-t.t-items (search rules)) in
     omega (arith, puts-Seq c.args.tx.now c.in-Seq.txs _ c.in-Seq.is listed, rest, c.loop-t.invariant.left)
+
+pub loop-t-preserved : goal.loop-t-preserved
+loop-t-preserved t c = grind (arith, common_steps)
+
+pub returns-in_err-left-in-OrElse-clause-tree : goal.returns-in_err-left-in-OrElse-clause-tree
+returns-in_err-left-in-OrElse-clause-tree t c = grind (arith, common_steps)
+
+pub returns-in_ok-left-in-OrElse-clause-tree : goal.returns-in_ok-left-in-OrElse-clause-tree
+returns-in_ok-left-in-OrElse-clause-tree t c = grind (arith, common_steps)

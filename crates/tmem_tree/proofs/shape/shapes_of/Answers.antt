@@ -1,3 +1,4 @@
+use Rattle.std.proofs.lemmas.Grind.{common_steps}
 use Rattle.std.proofs.Common.{◌≡◌, ℕ, ◌+◌, ◌∷◌, [], ◌++◌, List, Some, length, map, take, ap, sym, subst, ◌∙◌, arith}
 use Rattle.std.specs.Prelude.{slice_get}
 use Rattle.std.proofs.Props.{props}
@@ -41,3 +42,9 @@ returns-clause-footprints g c =
     let as_many : length (t.footprints table) ≡ length (t.names table) = ∥∥₁_elim (g.met.T.Invariants.has_meanings table) (hlevel props) (λ (stated : (m : Meanings) × t.is_stated table m). ap length (sym (g.met.T.Invariants.over table stated.0 stated.1)) ∙ length-map (t.names table) stated.0.footprint) in
     c.loop-index.invariant.footprints
     ∙ take_all c.loop-index.index (t.footprints table) (omega (arith, as_many, c.len-index-end.ensures))
+
+pub returns-in_err-push-clause-within : goal.returns-in_err-push-clause-within
+returns-in_err-push-clause-within g c = grind (arith, common_steps)
+
+pub returns-clause-names : goal.returns-clause-names
+returns-clause-names g c = grind (arith, common_steps)

@@ -1,3 +1,4 @@
+use Rattle.std.proofs.lemmas.Grind.{common_steps}
 use Rattle.std.proofs.Common.{◌≡◌, take, refl, arith}
 use Rattle.std.proofs.lemmas.List.{take_all}
 use Rattle.tmem_tree.specs.Limits.{is_check, checks_name, lacks_shape}
@@ -54,3 +55,9 @@ returns-in-OrElse-clause-known t c =
     let first = shapes_kept _ _ c.collect-in-OrElse-2.ensures.kept _ c.collect-in-OrElse.ensures.known in
     let second = c.collect-in-OrElse-2.ensures.known in
     grind (arith, first, second)
+
+pub returns-in-When-clause-kept : goal.returns-in-When-clause-kept
+returns-in-When-clause-kept t c = grind (arith, common_steps)
+
+pub returns-in-OrElse-clause-checked : goal.returns-in-OrElse-clause-checked
+returns-in-OrElse-clause-checked t c = grind (arith, common_steps)

@@ -1,4 +1,5 @@
-use Rattle.std.proofs.Common.{ap}
+use Rattle.std.proofs.lemmas.Grind.{common_steps}
+use Rattle.std.proofs.Common.{arith, ap}
 use Rattle.tmem_disk.specs.Disk.{overwritten}
 use Rattle.tmem_disk.specs.Sim.{Bytes}
 use Rattle.tmem_disk.proofs.Laws.{SameOutside-overwritten}
@@ -19,3 +20,6 @@ pub returns-clause-time : goal.returns-clause-time
 returns-clause-time c =
     let time = c.touch.ensures.time in
     record { later = time.later; nothing_else = time.nothing_else; keeps = time.keeps; before_or_since = time.before_or_since }
+
+pub invariant_of-self-clause-marked : goal.invariant_of-self-clause-marked
+invariant_of-self-clause-marked c = grind (arith, common_steps)

@@ -1,4 +1,5 @@
-use Rattle.std.proofs.Common.{rules, inr, sym, ◌∙◌}
+use Rattle.std.proofs.lemmas.Grind.{common_steps}
+use Rattle.std.proofs.Common.{arith, rules, inr, sym, ◌∙◌}
 use Rattle.tmem_disk.specs.SimParts.{sim_view}
 use Rattle.tmem_disk.proofs.Laws.{LeavesOnly-each, still_leaves}
 use Rattle.tmem_disk.proofs.Writing.{bytes_after_write-runs, only_fails-IsArmed}
@@ -30,3 +31,15 @@ returns-clause-crash c = LeavesOnly-each _ _ c.store.ensures.crash
 
 pub returns-clause-still : goal.returns-clause-still
 returns-clause-still c = still_leaves (sim_view c.args.self.now) (sim_view c.store.new.self) _ _ c.store.ensures.crash
+
+pub returns-then-is_crashed-2-clause-elsewhere : goal.returns-then-is_crashed-2-clause-elsewhere
+returns-then-is_crashed-2-clause-elsewhere c = grind (arith, common_steps)
+
+pub returns-clause-elsewhere : goal.returns-clause-elsewhere
+returns-clause-elsewhere c = grind (arith, common_steps)
+
+pub returns-clause-fails : goal.returns-clause-fails
+returns-clause-fails c = grind (arith, common_steps)
+
+pub returns-clause-marked : goal.returns-clause-marked
+returns-clause-marked c = grind (arith, common_steps)

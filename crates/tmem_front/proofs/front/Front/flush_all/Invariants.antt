@@ -1,6 +1,6 @@
 use Rattle.std.proofs.Common.{◌≡◌}
 use Rattle.tmem_spine.specs.History.{count}
-use Rattle.tmem_front.specs.Settling.{SeesMore}
+use Rattle.tmem_seats.specs.Settling.{SeesMore}
 use Rattle.tmem_front.proofs.front.Front.flush_all.Given as goal
 
 -- the pass saw more, and knows as many as were counted

@@ -1,4 +1,4 @@
-use Rattle.tmem_front.specs.Settling.{SeesMore}
+use Rattle.tmem_seats.specs.Settling.{SeesMore}
 use Rattle.tmem_front.proofs.front.Front.look_again.Given as goal
 
 -- the looks so far left the pass as it was, but for what it saw

@@ -2,7 +2,7 @@ use Rattle.std.proofs.Common.{Result, sym, subst}
 use Rattle.tmem_fault.specs.declared.fault.Fault.{Fault}
 use Rattle.tmem_tree.specs.declared.settled.Settled.{Settled}
 use Rattle.tmem_spine.specs.Views.{PassRoleView}
-use Rattle.tmem_front.specs.Settling.{KnowsMore, SettlesAtLast}
+use Rattle.tmem_seats.specs.Settling.{KnowsMore, SettlesAtLast}
 use Rattle.tmem_front.proofs.Again.{knows_still, knows_more_at_last, settles_at_last}
 use Rattle.tmem_front.proofs.front.Front.run.Goals as goal
 

@@ -1,4 +1,4 @@
-use Rattle.tmem_front.specs.Settling.{KnowsMore}
+use Rattle.tmem_seats.specs.Settling.{KnowsMore}
 use Rattle.tmem_front.proofs.front.Front.run.Given as goal
 
 -- what was settled so far left the pass as it was, but for what it knows

@@ -4,7 +4,7 @@ use Rattle.tmem_tentative.specs.declared.attempt.Attempt.{Attempt}
 use Rattle.tmem_tentative.specs.Right.{IsRight}
 use Rattle.tmem_core.specs.Decisions.{answer_of}
 use Rattle.tmem_tree.specs.Plans.{FitsVariables}
-use Rattle.tmem_front.specs.Settling.{SettlesPass}
+use Rattle.tmem_seats.specs.Settling.{SettlesPass}
 use Rattle.tmem_front.proofs.front.Front.run_or_wait.Goals as goal
 
 pub evaluate-requires-clause-variables : goal.evaluate-requires-clause-variables

@@ -3,7 +3,7 @@ use Rattle.std.proofs.Math.Logic.{∥∥₁_map}
 use Rattle.tmem_tentative.specs.declared.attempt.Attempt.{Attempt}
 use Rattle.tmem_tentative.specs.Right.{IsRight}
 use Rattle.tmem_core.specs.Decisions.{answer_of}
-use Rattle.tmem_front.specs.Settling.{SettlesPass}
+use Rattle.tmem_seats.specs.Settling.{SettlesPass}
 use Rattle.tmem_front.proofs.front.Front.take_turn.Goals as goal
 
 pub returns-clause-settled : goal.returns-clause-settled

@@ -2,7 +2,7 @@ use Rattle.std.proofs.Common.{inr, sym, subst}
 use Rattle.std.proofs.Math.Logic.{∥∥₁_map}
 use Rattle.tmem_tentative.specs.Right.{IsRight}
 use Rattle.tmem_spine.specs.Views.{PassRoleView}
-use Rattle.tmem_front.specs.Settling.{SettlesPass, SettlesPlan}
+use Rattle.tmem_seats.specs.Settling.{SettlesPass, SettlesPlan}
 use Rattle.tmem_front.proofs.front.Front.try_atomically.Goals as goal
 
 pub returns-clause-settled : goal.returns-clause-settled

@@ -2,7 +2,7 @@ use Rattle.std.proofs.Common.{◌≡◌, ℤ, map, Some, ap, sym, subst}
 use Rattle.std.specs.Prelude.{IfOk, IfSome}
 use Rattle.tmem_seats.specs.Histories.{state_after_history}
 use Rattle.tmem_spine.specs.Views.{PassRoleView}
-use Rattle.tmem_front.specs.Refusing.{AreEndValues, end_value}
+use Rattle.tmem_seats.specs.Refusing.{AreEndValues, end_value}
 use Rattle.tmem_front.proofs.Refused.{named_among, meant_among, ends_told}
 use Rattle.tmem_front.proofs.front.Front.why_attempt_refused.Goals as goal
 

@@ -1,3 +1,4 @@
+use Rattle.std.proofs.lemmas.Grind.{common_steps}
 use Rattle.std.proofs.Common.{ℕ, ℤ, ◌<◌, List, length, arith, refl, sym, ◌∙◌, ap, subst}
 use Rattle.std.specs.Prelude.{All}
 use Rattle.tmem_disk.specs.Disk.{LeavesOnly}
@@ -108,3 +109,9 @@ invariant_of-self-in-Err-clause-current g c =
     let p = batch_placed j.layout j.log c.count-first.result c.args.batch.now in
     let not_full = full_is_not c.in-Err.fault j.log.used j.layout.slots c.if-self-2.false c.in-Err.ensures.full in
     current_err (g.D.Disk.view j.disk) (g.D.Disk.view c.append.new.disk) p j.copy j.state (sym c.count-first.ensures) c.requires.within c.append.ensures.uses.model (j.sure c.if-self.false) c.in-Err.fault c.in-Err.ensures.errors not_full c.in-Err.ensures.puts.stands
+
+pub returns-then-self-2-clause-elsewhere : goal.returns-then-self-2-clause-elsewhere
+returns-then-self-2-clause-elsewhere g c = grind (arith, common_steps)
+
+pub invariant_of-self : goal.invariant_of-self
+invariant_of-self g c = grind (arith, common_steps)

@@ -1,3 +1,4 @@
+use Rattle.std.proofs.lemmas.Grind.{common_steps}
 use Rattle.std.proofs.Common.{refl, arith}
 use Rattle.std.proofs.lemmas.Bool.{false≢true}
 use Rattle.tmem_fault.specs.declared.fault.Fault.{Fault}
@@ -104,3 +105,9 @@ returns-in-Ok-recover_current-clause-migrates g c = rw (c.in-Ok.ensures.vars, c.
 
 pub returns-in-Err-recover_current-clause-migrates : goal.returns-in-Err-recover_current-clause-migrates
 returns-in-Err-recover_current-clause-migrates g c = rw (c.in-Ok.ensures.vars, c.in-Ok.ensures.slots) at c.in-Err-recover_current.ensures.migrates
+
+pub invariant_of-result-clause-ahead : goal.invariant_of-result-clause-ahead
+invariant_of-result-clause-ahead g c = grind (arith, common_steps)
+
+pub returns-in-Ok-recover_current-clause-uses : goal.returns-in-Ok-recover_current-clause-uses
+returns-in-Ok-recover_current-clause-uses g c = grind (arith, common_steps)

@@ -1,3 +1,4 @@
+use Rattle.std.proofs.lemmas.Grind.{common_steps}
 use Rattle.std.proofs.Common.{◌≡◌, All, ◌+◌, ◌-◌, ℕ, List, length, drop, arith, sym, ap, ◌∙◌, subst}
 use Rattle.tmem_effect.specs.Loggable.{IsLoggable}
 use Rattle.tmem_effect.specs.Prefix.{IsPrefix}
@@ -59,3 +60,6 @@ returns-clause-oldest g c =
           let exact = c.trim_beside-durable.ensures.exact in
           c.take.ensures.some (omega arith);
     }
+
+pub invariant_of-self : goal.invariant_of-self
+invariant_of-self g c = grind (arith, common_steps)

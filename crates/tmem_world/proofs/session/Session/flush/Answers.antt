@@ -1,3 +1,4 @@
+use Rattle.std.proofs.lemmas.Grind.{common_steps}
 use Rattle.std.proofs.Common.{rules, ◌≡◌, ◌∙◌, ℕ, length, drop, sym, ap, subst, arith, refl}
 use Rattle.std.specs.Prelude.{Result}
 use Rattle.tmem_fault.specs.declared.fault.Fault.{Fault}
@@ -66,3 +67,12 @@ returns-else-is_closed-clause-device g c =
     let o = c.args.self.now in
     let so = c.flush-flushed.ensures in
     flush_called o _ (g.met.D.Disk.is_device (journal.disk_of o.journal)) c.take.new.batch c.flush-flushed.result so.uses so.any_moment so.flushed so.elsewhere so.layout refl refl
+
+pub returns-then-durable-count-clause-flushed : goal.returns-then-durable-count-clause-flushed
+returns-then-durable-count-clause-flushed g c = grind (arith, common_steps)
+
+pub returns-then-durable-count-clause-device : goal.returns-then-durable-count-clause-device
+returns-then-durable-count-clause-device g c = grind (arith, common_steps)
+
+pub invariant_of-self-else-is_closed : goal.invariant_of-self-else-is_closed
+invariant_of-self-else-is_closed g c = grind (arith, common_steps)

@@ -1,4 +1,5 @@
-use Rattle.std.proofs.Common.{◌≡◌, ap, refl, ◌∙◌, rules}
+use Rattle.std.proofs.lemmas.Grind.{common_steps}
+use Rattle.std.proofs.Common.{arith, ◌≡◌, ap, refl, ◌∙◌, rules}
 use Rattle.std.specs.Prelude.{Some, Ok, Err}
 use Rattle.tmem_journal.specs.Held as journal
 use Rattle.tmem_world.specs.declared.held.Held.TheVariants.{With}
@@ -59,3 +60,6 @@ returns-in_default g c =
           checkpoints_without w new (λ it. let o = session_of_it (held_of w) it in let there : w.held ≡ Some (With o.0) = held_as w.held w.here (With o.0) o.1 in cc) (ap (λ x. x.layout) v.self-is) (ap (λ x. x.steps) v.self-is) same (ap (λ x. x.attempts.items) v.self-is) (g.met.D.Disk.is_device (world_disk w))
       | in_default-via-in-None-1 v ↦ absurd (search rules)
     ]
+
+pub invariant_of-self : goal.invariant_of-self
+invariant_of-self g c = grind (arith, common_steps)

@@ -1,4 +1,5 @@
-use Rattle.std.proofs.Common.{refl, sym, ◌∙◌, ap, subst}
+use Rattle.std.proofs.lemmas.Grind.{common_steps}
+use Rattle.std.proofs.Common.{arith, refl, sym, ◌∙◌, ap, subst}
 use Rattle.tmem_disk.specs.Disk.{AtEachMoment}
 use Rattle.tmem_fault.specs.declared.fault.Fault.TheVariants.{Memory}
 use Rattle.tmem_core.specs.Program.{IsProgramOf}
@@ -97,3 +98,9 @@ returns-clause-chain g c = λ program h means store keeps.
             (g.met.D.Disk.is_device c.args.disk).failures_fit,
       );
     }
+
+pub returns-in-Err-clause-refused : goal.returns-in-Err-clause-refused
+returns-in-Err-clause-refused g c = grind (arith, common_steps)
+
+pub returns-in-Err-empty_attempts-clause-uses : goal.returns-in-Err-empty_attempts-clause-uses
+returns-in-Err-empty_attempts-clause-uses g c = grind (arith, common_steps)

@@ -46,3 +46,6 @@ returns g c =
       kept = all_kept w es rs new each;
       err = tt;
     }
+
+pub returns-in_err-replies-clause-elsewhere : goal.returns-in_err-replies-clause-elsewhere
+returns-in_err-replies-clause-elsewhere g c = grind (arith, common_steps)

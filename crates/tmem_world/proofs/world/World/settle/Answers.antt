@@ -1,3 +1,4 @@
+use Rattle.std.proofs.lemmas.Grind.{common_steps}
 use Rattle.std.proofs.Common.{rules, ◌≡◌, ◌<◌, length, refl, sym, ◌∙◌, ap, subst, arith}
 use Rattle.std.specs.Prelude.{Some}
 use Rattle.std.proofs.lemmas.List.Elements.{All-set}
@@ -51,3 +52,6 @@ returns-in-Some-With g c =
     let holds = attempt_holds program _ m c.args.attempt c.index_mut.result.now r below c.index_mut.ensures.value in
     let done = settles program w _ m c.args.attempt o c.settle_attempt.new.self (core_means program w o before means) so.journal r before refl _ c.settle_attempt.new.held (attempt_at m c.args.attempt) c.settle_attempt.result c.index_mut.ensures.value refl holds so.settled in
     (done.0, in_session program (held_of w) m _ _ _ r.session (is_with (held_of w) o before) done.1, done.2)) tt so.failures tt
+
+pub settle_attempt-requires : goal.settle_attempt-requires
+settle_attempt-requires g c = grind (arith, common_steps)

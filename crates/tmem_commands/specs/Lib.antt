@@ -1,0 +1,3 @@
+pub mod Checked
+pub mod Made
+pub mod Outcomes

@@ -1,7 +1,0 @@
-use Rattle.std.proofs.Common.{◌≡◌}
-use Rattle.tmem_desk.specs.Held.{first_numbers}
-use Rattle.tmem_desk.proofs.looking.first_vars.Given as goal
-
--- the variables so far
-abbrev pub invariant-loop-var : goal.invariant-loop-var
-invariant-loop-var l = l.vars.items ≡ first_numbers l.var

@@ -1,6 +1,0 @@
-use Rattle.tmem_front.specs.Settling.{KnowsMore}
-use Rattle.tmem_desk.proofs.service.Service.settle.Given as goal
-
--- the attempts so far committed nothing
-abbrev pub invariant-loop : goal.invariant-loop
-invariant-loop g l = KnowsMore l.fn.pass l.pass
