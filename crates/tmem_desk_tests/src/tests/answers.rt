@@ -1,5 +1,5 @@
 //! What each request is answered.
-use super::store::{Case, serve_all};
+use super::store::{Case, ServedBy, serve_all};
 use std::test::Fail;
 
 static CASES: &[Case<'static>] = &[
@@ -176,5 +176,5 @@ static CASES: &[Case<'static>] = &[
 
 #[test]
 fn requests_are_answered(rt: HostRuntime) -> Result<(), Fail> {
-    serve_all(&rt, rt.alloc(), CASES)
+    serve_all(&rt, rt.alloc(), CASES, ServedBy::Desk)
 }

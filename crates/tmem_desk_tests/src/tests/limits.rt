@@ -1,5 +1,5 @@
 //! As many requests wait as may, as many transactions are kept, and more of them commit in one piece than may be undurable.
-use super::store::{Case, serve_case};
+use super::store::{Case, ServedBy, serve_case};
 use std::alloc::Global;
 use std::io::Write;
 use std::process::Abort;
@@ -116,7 +116,7 @@ fn serve_where<R: Abort + Wait>(
         pieces: &[piece.as_str()],
         prints: &[],
     };
-    let printed = serve_case(rt, alloc, &case);
+    let printed = serve_case(rt, alloc, &case, ServedBy::Desk);
     let is_wanted = printed.as_slice() == wanted.as_slice();
     let shown = String::from_utf8(printed);
     assert!(rt; is_wanted, "{shown:?}");

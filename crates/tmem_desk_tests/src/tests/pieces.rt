@@ -1,5 +1,5 @@
 //! What waits, what is cut into pieces, and what is told where the device fails.
-use super::store::{Case, serve_all};
+use super::store::{Case, ServedBy, serve_all};
 use std::test::Fail;
 
 static CASES: &[Case<'static>] = &[
@@ -136,5 +136,34 @@ static CASES: &[Case<'static>] = &[
 
 #[test]
 fn pieces_are_served(rt: HostRuntime) -> Result<(), Fail> {
-    serve_all(&rt, rt.alloc(), CASES)
+    serve_all(&rt, rt.alloc(), CASES, ServedBy::Desk)
+}
+
+static SECOND_CASES: &[Case<'static>] = &[
+    Case {
+        name: "what another desk committed is seen",
+        fails: None,
+        pieces: &["{\"id\":1,\"ask\":\"look\"}\n{\"id\":2,\"get\":[2]}\n"],
+        prints: &[
+            "{\"id\":1,\"durable\":1}",
+            "{\"id\":2,\"count\":1,\"values\":[[2,5]]}",
+        ],
+    },
+    Case {
+        name: "the fault that another desk met is told, and not that the store is closed behind it",
+        fails: Some(0),
+        pieces: &[
+            "{\"id\":1,\"ask\":\"look\"}\n{\"id\":2,\"do\":{\"write\":[2,0]}}\n{\"id\":3,\"ask\":\"checkpoint\"}\n",
+        ],
+        prints: &[
+            "{\"id\":1,\"durable\":0}",
+            "{\"id\":2,\"fault\":4,\"word\":\"unknown\"}",
+            "{\"id\":3,\"fault\":4,\"word\":\"unknown\"}",
+        ],
+    },
+];
+
+#[test]
+fn two_desks_share_a_store(rt: HostRuntime) -> Result<(), Fail> {
+    serve_all(&rt, rt.alloc(), SECOND_CASES, ServedBy::SecondDesk)
 }

@@ -12,14 +12,14 @@ use std::process::Abort;
 use std::sync::Wait;
 use std::test::Fail;
 use tmem_builtins::stored_steps;
-use tmem_desk::{Desk, DeskFailure, ServedNaming, Service};
+use tmem_desk::{Desk, DeskFailure, ServedNaming, ServedStore};
 use tmem_disk::{Disk, SimDisk};
 use tmem_fault::{Fault, Name};
-use tmem_front::{Front, OpenedFront};
+use tmem_front::{Front, OpenedFront, Pass};
 use tmem_invariants::Invariants;
 use tmem_journal::{Layout, format};
 use tmem_lines::Lines;
-use tmem_serve::{InputEnd, ServeError, Served, serve_store};
+use tmem_serve::{InputEnd, ServeError, Served, Service, serve_store};
 use tmem_tables::{Invariant, Table};
 use tmem_tree::StoredSteps;
 
@@ -43,6 +43,8 @@ pub(super) struct Case<'a> {
 pub(super) enum ServedBy {
     /// A desk is handed each.
     Desk,
+    /// The same, once another desk of the store has committed a transaction, and has flushed it or met the fault of the device.
+    SecondDesk,
     /// `serve_store` reads each by a read of its own, once it has printed the first line.
     Store,
 }
@@ -80,9 +82,10 @@ pub(super) fn serve_all<R: Abort + Wait>(
     rt: &R,
     alloc: Global,
     cases: &[Case],
+    by: ServedBy,
 ) -> Result<(), Fail> {
     for case in cases {
-        let printed = serve_case(rt, alloc, case);
+        let printed = serve_case(rt, alloc, case, by);
         let mut wanted = Vec::new(alloc);
         for line in case.prints {
             wanted.extend_from_slice(line.as_bytes())?;
@@ -97,9 +100,9 @@ pub(super) fn serve_all<R: Abort + Wait>(
 }
 
 /// What is printed for a case.
-pub(super) fn serve_case<R: Wait>(rt: &R, alloc: Global, case: &Case) -> Vec<u8> {
+pub(super) fn serve_case<R: Wait>(rt: &R, alloc: Global, case: &Case, by: ServedBy) -> Vec<u8> {
     let mut out = Vec::new(alloc);
-    let _ = serve_into(rt, alloc, case, ServedBy::Desk, &mut out);
+    let _ = serve_into(rt, alloc, case, by, &mut out);
     out
 }
 
@@ -147,7 +150,9 @@ fn serve_new_store<R: Wait, T: Invariants + Drop, S: StoredSteps + Drop, W: Writ
 {
     let disk = new_store(alloc, case)?;
     match by {
-        ServedBy::Desk => serve_by_desk(rt, alloc, case, disk, table, steps, out),
+        ServedBy::Desk | ServedBy::SecondDesk => {
+            serve_by_desk(rt, alloc, case, by, disk, table, steps, out)
+        }
         ServedBy::Store => Ok(serve_whole(rt, alloc, case, disk, table, steps, out)),
     }
 }
@@ -203,6 +208,7 @@ fn serve_by_desk<R: Wait, T: Invariants + Drop, S: StoredSteps + Drop, W: Write>
     rt: &R,
     alloc: Global,
     case: &Case,
+    by: ServedBy,
     disk: SimDisk,
     table: T,
     steps: S,
@@ -215,7 +221,7 @@ fn serve_by_desk<R: Wait, T: Invariants + Drop, S: StoredSteps + Drop, W: Write>
     requires arities { S.arities steps ≡ 2 ∷ 2 ∷ 2 ∷ [] }
 {
     match OpenedFront::open(alloc, disk, VARS, SLOTS, table, steps) {
-        Ok(opened) => serve_named::<Brand, T, S, R, W>(rt, alloc, case, opened, out),
+        Ok(opened) => serve_named::<Brand, T, S, R, W>(rt, alloc, case, by, opened, out),
         Err((fault, _disk)) => Err(fault),
     }
 }
@@ -225,6 +231,7 @@ fn serve_named<N: ServedNaming, T: Invariants + Drop, S: StoredSteps + Drop, R: 
     rt: &R,
     alloc: Global,
     case: &Case,
+    by: ServedBy,
     opened: OpenedFront<SimDisk, T, S>,
     out: &mut W,
 ) -> Result<ServingEnd, Fault>
@@ -241,6 +248,9 @@ fn serve_named<N: ServedNaming, T: Invariants + Drop, S: StoredSteps + Drop, R: 
     let front = opened.named::<N>();
     let names = [Name::new("solvent")?];
     let service = Service::new(rt, alloc, &front, VARS, &names, &[]);
+    if let ServedBy::SecondDesk = by {
+        commit_by_desk(alloc, &service, front.pass(rt)?);
+    }
     let mut desk = Desk::new(alloc, front.pass(rt)?);
     match serve_pieces(alloc, &service, &mut desk, case, out) {
         Ok(()) => Ok(ServingEnd::InputRead),
@@ -248,17 +258,18 @@ fn serve_named<N: ServedNaming, T: Invariants + Drop, S: StoredSteps + Drop, R: 
     }
 }
 
+// Commits a transaction by a desk of its own, which flushes it unless the device fails.
+fn commit_by_desk<N: ServedNaming, V: ServedStore<N>>(alloc: Global, service: &V, pass: Pass<N>) {
+    let mut desk = Desk::new(alloc, pass);
+    let mut lines = Lines::new(alloc);
+    let text = "{\"id\":1,\"do\":{\"seq\":[{\"put\":[0,5]},{\"write\":[2,0]}]}}\n";
+    let _ = desk.serve(service, &mut lines, text.as_bytes(), &mut Vec::new(alloc));
+}
+
 // Serves the pieces of a case, and then the end of the input.
-fn serve_pieces<
-    N: ServedNaming,
-    D: Disk + Drop,
-    T: Invariants + Drop,
-    S: StoredSteps + Drop,
-    R: Wait,
-    W: Write,
->(
+fn serve_pieces<N: ServedNaming, V: ServedStore<N>, W: Write>(
     alloc: Global,
-    service: &Service<R, D, N, T, S>,
+    service: &V,
     desk: &mut Desk<N>,
     case: &Case,
     out: &mut W,
