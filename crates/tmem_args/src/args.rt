@@ -1,13 +1,12 @@
 //! Which words a command line may have.
-ghost use Rattle.std.specs.Prelude.{◌≡◌, false, [], IfOk, codes, map, option_map, string_bytes, ℕ, List};
+ghost use Rattle.std.specs.Prelude.{◌≡◌, false, true, Some, [], IfOk, codes, map, option_map, string_bytes, ℕ, List};
 ghost use Rattle.clap.specs.declared.builder.command.Command.TheViews.{out-Command as fields_of};
 ghost use Rattle.clap.specs.Kinds.{FailsBy};
 ghost use Rattle.clap.specs.Matches.{found_of};
-ghost use Rattle.clap.specs.Simple.{App, Shape, app_of, subcommand_of, subcommand_rows_of, with_subcommand as adding};
-ghost use Rattle.clap.specs.Walk.{Text, first_of, one_of, rows_of, rule_of};
-ghost use Rattle.tmem_args.specs.CommandLine.{IsAsked, IsNumberIfAny, IsNumberOf, IsTold, ReadsPlainly, IsFlagOf, bench_words, check_words, command_line, disk_words, explain_words, file_word, flag_word, init_words, number_word, option_words, parsed_option, parsed_word, program_alone, run_words, script_to_check, script_word, serve_words, shape_words, show_words, store_word, text_in, threads_words, why_not_done};
+ghost use Rattle.clap.specs.Simple.{App, Shape, app_of, new_app, new_rule, subcommand_of, subcommand_rows_of, with_rule, with_subcommand as adding};
+ghost use Rattle.clap.specs.Walk.{Rule, Text, first_of, one_of, rows_of, rule_of};
+ghost use Rattle.tmem_args.specs.CommandLine.{IsAsked, IsNumberIfAny, IsNumberOf, IsTold, ReadsPlainly, IsFlagOf, bench_words, check_words, command_line, disk_words, explain_words, file_word, flag_word, init_words, number_word, option_words, program_alone, run_words, script_to_check, script_word, serve_words, shape_words, show_words, store_word, text_in, threads_words, why_not_done};
 
-use clap::builder::ValueParser;
 use clap::{Arg, ArgAction, ArgMatches, Command, value_parser};
 use std::alloc::{AllocError, Global};
 
@@ -299,13 +298,11 @@ fn command<'a>(alloc: Global) -> Result<Command<'a>, AllocError>
 fn program<'a>(alloc: Global) -> Result<Command<'a>, AllocError>
     ensures { IfOk result (λ command. app_of command ≡ program_alone) }
 {
-    let command = Command::new(alloc, "tmem").bin_name("tmem")?;
-    Ok(
-        command
-            .version(VERSION)
-            .about("Durable transactions, played from scripts")
-            .subcommand_required(true),
-    )
+    Command::new(alloc, "tmem")
+        .version(VERSION)
+        .about("Durable transactions, played from scripts")
+        .subcommand_required(true)
+        .bin_name("tmem")
 }
 
 // A command with one more subcommand, where both were made.
@@ -321,97 +318,156 @@ fn with_subcommand<'a>(
     command?.subcommand(subcommand?)
 }
 
+// A subcommand of this name with two arguments.
+fn subcommand_with<'a>(
+    alloc: Global,
+    name: &'a str,
+    about: &'a str,
+    first: Arg<'a>,
+    second: Arg<'a>,
+) -> Result<Command<'a>, AllocError>
+    ensures app { (one two : Rule) → rule_of first.entry ≡ one
+        → first.entry.global ≡ false
+        → rule_of second.entry ≡ two
+        → second.entry.global ≡ false
+        → IfOk result (λ command. app_of command ≡ with_rule (with_rule (new_app name.entry.now) one) two) }
+    ensures local { first.entry.global ≡ false
+        → second.entry.global ≡ false
+        → IfOk result (λ command. (fields_of command).has_globals ≡ false) }
+{
+    with_arg(Command::new(alloc, name).about(about).arg(first), second)
+}
+
+// A command with one more argument, where it was made.
+fn with_arg<'a>(
+    command: Result<Command<'a>, AllocError>,
+    arg: Arg<'a>,
+) -> Result<Command<'a>, AllocError>
+    ensures app { (before : App) (rule : Rule) → IfOk command.entry (λ command. app_of command ≡ before)
+        → rule_of arg.entry ≡ rule
+        → arg.entry.global ≡ false
+        → IfOk result (λ command. app_of command ≡ with_rule before rule) }
+    ensures local { IfOk command.entry (λ command. (fields_of command).has_globals ≡ false)
+        → arg.entry.global ≡ false
+        → IfOk result (λ command. (fields_of command).has_globals ≡ false) }
+{
+    command?.arg(arg)
+}
+
 fn run_command<'a>(alloc: Global) -> Result<Command<'a>, AllocError>
     ensures app { IfOk result (λ command. app_of command ≡ record { top = run_words; subs = [] }) }
     ensures local { IfOk result (λ command. (fields_of command).has_globals ≡ false) }
 {
-    Command::new(alloc, "run")
-        .about("Plays a script on a store in a file or in memory")
-        .arg(script_arg(alloc))?
-        .arg(disk_arg(
-            alloc,
-            "The file of the store, made if it is missing [default: a device in memory]",
-        ))?
-        .arg(explain_arg(alloc))
+    let disk = disk_arg(
+        alloc,
+        "The file of the store, made if it is missing [default: a device in memory]",
+    );
+    let run = subcommand_with(
+        alloc,
+        "run",
+        "Plays a script on a store in a file or in memory",
+        script_arg(alloc),
+        disk,
+    );
+    with_arg(run, explain_arg(alloc))
 }
 
 fn threads_command<'a>(alloc: Global) -> Result<Command<'a>, AllocError>
     ensures app { IfOk result (λ command. app_of command ≡ record { top = threads_words; subs = [] }) }
     ensures local { IfOk result (λ command. (fields_of command).has_globals ≡ false) }
 {
-    Command::new(alloc, "threads")
-        .about("Lets threads count up in a new store in a file or in memory")
-        .arg(workers_arg(alloc))?
-        .arg(turns_arg(alloc))?
-        .arg(disk_arg(
-            alloc,
-            "The file of the store, which must not be there yet [default: a device in memory]",
-        ))?
-        .arg(explain_arg(alloc))
+    let disk = disk_arg(
+        alloc,
+        "The file of the store, which must not be there yet [default: a device in memory]",
+    );
+    let threads = subcommand_with(
+        alloc,
+        "threads",
+        "Lets threads count up in a new store in a file or in memory",
+        workers_arg(alloc),
+        turns_arg(alloc),
+    );
+    with_arg(with_arg(threads, disk), explain_arg(alloc))
 }
 
 fn bench_command<'a>(alloc: Global) -> Result<Command<'a>, AllocError>
     ensures app { IfOk result (λ command. app_of command ≡ record { top = bench_words; subs = [] }) }
     ensures local { IfOk result (λ command. (fields_of command).has_globals ≡ false) }
 {
-    Command::new(alloc, "bench")
-        .about("Times transactions and the jobs of a service, which takes over a minute")
-        .arg(disk_arg(
-            alloc,
-            "The file of the timed stores, which must not be there yet, and is removed again [default: tmem-bench.store]",
-        ))?
-        .arg(millis_arg(alloc))?
-        .arg(job_arg(alloc))?
-        .arg(explain_arg(alloc))
+    let disk = disk_arg(
+        alloc,
+        "The file of the timed stores, which must not be there yet, and is removed again [default: tmem-bench.store]",
+    );
+    let bench = subcommand_with(
+        alloc,
+        "bench",
+        "Times transactions and the jobs of a service, which takes over a minute",
+        disk,
+        millis_arg(alloc),
+    );
+    with_arg(with_arg(bench, job_arg(alloc)), explain_arg(alloc))
 }
 
 fn show_command<'a>(alloc: Global) -> Result<Command<'a>, AllocError>
     ensures app { IfOk result (λ command. app_of command ≡ record { top = show_words; subs = [] }) }
     ensures local { IfOk result (λ command. (fields_of command).has_globals ≡ false) }
 {
-    Command::new(alloc, "show")
-        .about("Shows what is in a store, without changing it")
-        .arg(store_arg(alloc))?
-        .arg(flag_arg(alloc, "json", "Print one JSON object"))?
-        .arg(flag_arg(alloc, "hex", "Print the bytes of each part too"))?
-        .arg(explain_arg(alloc))
+    let json = flag_arg(alloc, "json", "Print one JSON object");
+    let hex = flag_arg(alloc, "hex", "Print the bytes of each part too");
+    let show = subcommand_with(
+        alloc,
+        "show",
+        "Shows what is in a store, without changing it",
+        store_arg(alloc),
+        json,
+    );
+    with_arg(with_arg(show, hex), explain_arg(alloc))
 }
 
 fn init_command<'a>(alloc: Global) -> Result<Command<'a>, AllocError>
     ensures app { IfOk result (λ command. app_of command ≡ record { top = init_words; subs = [] }) }
     ensures local { IfOk result (λ command. (fields_of command).has_globals ≡ false) }
 {
-    Command::new(alloc, "init")
-        .about("Makes a store of a shape, and puts the shape beside it")
-        .arg(store_arg(alloc))?
-        .arg(file_arg(alloc))?
-        .arg(flag_arg(
-            alloc,
-            "in-place",
-            "Make it on a file or block device that is there, whose first bytes, as many as it takes, are 0, and put nothing beside it",
-        ))?
-        .arg(explain_arg(alloc))
+    let in_place = flag_arg(
+        alloc,
+        "in-place",
+        "Make it on a file or block device that is there, whose first bytes, as many as it takes, are 0, and put nothing beside it",
+    );
+    let init = subcommand_with(
+        alloc,
+        "init",
+        "Makes a store of a shape, and puts the shape beside it",
+        store_arg(alloc),
+        file_arg(alloc),
+    );
+    with_arg(with_arg(init, in_place), explain_arg(alloc))
 }
 
 fn serve_command<'a>(alloc: Global) -> Result<Command<'a>, AllocError>
     ensures app { IfOk result (λ command. app_of command ≡ record { top = serve_words; subs = [] }) }
     ensures local { IfOk result (λ command. (fields_of command).has_globals ≡ false) }
 {
-    Command::new(alloc, "serve")
-        .about("Answers the requests on standard input from a store")
-        .arg(store_arg(alloc))?
-        .arg(shape_arg(alloc))?
-        .arg(explain_arg(alloc))
+    let serve = subcommand_with(
+        alloc,
+        "serve",
+        "Answers the requests on standard input from a store",
+        store_arg(alloc),
+        shape_arg(alloc),
+    );
+    with_arg(serve, explain_arg(alloc))
 }
 
 fn check_command<'a>(alloc: Global) -> Result<Command<'a>, AllocError>
     ensures app { IfOk result (λ command. app_of command ≡ record { top = check_words; subs = [] }) }
     ensures local { IfOk result (λ command. (fields_of command).has_globals ≡ false) }
 {
-    Command::new(alloc, "check")
-        .about("Says all that is wrong with a script, and touches no store")
-        .arg(checked_arg(alloc))?
-        .arg(idle_explain_arg(alloc))
+    subcommand_with(
+        alloc,
+        "check",
+        "Says all that is wrong with a script, and touches no store",
+        checked_arg(alloc),
+        idle_explain_arg(alloc),
+    )
 }
 
 // The path of a script, which has to be given.
@@ -419,10 +475,7 @@ fn checked_arg<'a>(alloc: Global) -> Arg<'a>
     ensures rule { rule_of result ≡ script_to_check }
     ensures local { result.global ≡ false }
 {
-    Arg::new(alloc, "script")
-        .required(true)
-        .value_name("SCRIPT")
-        .help("The file with the script")
+    wanted_arg(alloc, "script", "SCRIPT", "The file with the script")
 }
 
 // `--explain`.
@@ -446,10 +499,7 @@ fn file_arg<'a>(alloc: Global) -> Arg<'a>
     ensures rule { rule_of result ≡ file_word }
     ensures local { result.global ≡ false }
 {
-    Arg::new(alloc, "file")
-        .required(true)
-        .value_name("FILE")
-        .help("The file with the shape")
+    wanted_arg(alloc, "file", "FILE", "The file with the shape")
 }
 
 // `--shape` with a path.
@@ -457,10 +507,12 @@ fn shape_arg<'a>(alloc: Global) -> Arg<'a>
     ensures rule { rule_of result ≡ shape_words }
     ensures local { result.global ≡ false }
 {
-    Arg::new(alloc, "shape")
-        .long("shape")
-        .value_name("FILE")
-        .help("The file with its shape [default: STORE.json]")
+    option_arg(
+        alloc,
+        "shape",
+        "FILE",
+        "The file with its shape [default: STORE.json]",
+    )
 }
 
 // The path of a store, which has to be given.
@@ -468,10 +520,12 @@ fn store_arg<'a>(alloc: Global) -> Arg<'a>
     ensures rule { rule_of result ≡ store_word }
     ensures local { result.global ≡ false }
 {
-    Arg::new(alloc, "store")
-        .required(true)
-        .value_name("STORE")
-        .help("The file of the store, or the block device")
+    wanted_arg(
+        alloc,
+        "store",
+        "STORE",
+        "The file of the store, or the block device",
+    )
 }
 
 // A flag of this name.
@@ -501,7 +555,8 @@ fn workers_arg<'a>(alloc: Global) -> Arg<'a>
     ensures local { result.global ≡ false }
 {
     let workers = value_parser!(u16).range(1..=16);
-    number_arg(alloc, "workers", "WORKERS", workers).help("How many threads count, from 1 to 16")
+    let help = "How many threads count, from 1 to 16";
+    wanted_arg(alloc, "workers", "WORKERS", help).value_parser(workers)
 }
 
 // How often each of them adds 1.
@@ -510,7 +565,8 @@ fn turns_arg<'a>(alloc: Global) -> Arg<'a>
     ensures local { result.global ≡ false }
 {
     let turns = value_parser!(u16).range(1..=1000);
-    number_arg(alloc, "turns", "TURNS", turns).help("How often each of them adds 1, from 1 to 1000")
+    let help = "How often each of them adds 1, from 1 to 1000";
+    wanted_arg(alloc, "turns", "TURNS", help).value_parser(turns)
 }
 
 // `--millis` with how long a job goes on.
@@ -519,9 +575,8 @@ fn millis_arg<'a>(alloc: Global) -> Arg<'a>
     ensures local { result.global ≡ false }
 {
     let millis = value_parser!(u16).range(10..=60000);
-    option_arg(alloc, "millis", millis).help(
-        "For how many milliseconds each job goes on, from 10 to 60000 [default: 1000]",
-    )
+    let help = "For how many milliseconds each job goes on, from 10 to 60000 [default: 1000]";
+    option_arg(alloc, "millis", "N", help).value_parser(millis)
 }
 
 // `--job` with the number of a line.
@@ -530,36 +585,30 @@ fn job_arg<'a>(alloc: Global) -> Arg<'a>
     ensures local { result.global ≡ false }
 {
     let lines = value_parser!(u16).range(1..=48);
-    option_arg(alloc, "job", lines).help(
-        "The one job to time, by its line in the table, from 1 to 48 [default: all]",
-    )
+    let help = "The one job to time, by its line in the table, from 1 to 48 [default: all]";
+    option_arg(alloc, "job", "N", help).value_parser(lines)
 }
 
-// A number behind an option of this name.
-fn option_arg<'a>(alloc: Global, id: &'a str, numbers: ValueParser<'a>) -> Arg<'a>
-    ensures rule { rule_of result ≡ parsed_option id.entry.now numbers.entry }
-    ensures local { result.global ≡ false }
-{
-    Arg::new(alloc, id)
-        .long(id)
-        .value_name("N")
-        .value_parser(numbers)
-}
-
-// A number, which has to be given.
-fn number_arg<'a>(
-    alloc: Global,
-    id: &'a str,
-    value_name: &'a str,
-    numbers: ValueParser<'a>,
-) -> Arg<'a>
-    ensures rule { rule_of result ≡ parsed_word id.entry.now numbers.entry }
+// A word that has to be given.
+fn wanted_arg<'a>(alloc: Global, id: &'a str, value_name: &'a str, help: &'a str) -> Arg<'a>
+    ensures rule { rule_of result ≡ record (new_rule id.entry.now) { value_names = 1; required = true } }
     ensures local { result.global ≡ false }
 {
     Arg::new(alloc, id)
         .required(true)
         .value_name(value_name)
-        .value_parser(numbers)
+        .help(help)
+}
+
+// A word behind an option of this name.
+fn option_arg<'a>(alloc: Global, id: &'a str, value_name: &'a str, help: &'a str) -> Arg<'a>
+    ensures rule { rule_of result ≡ record (new_rule id.entry.now) { long = Some id.entry.now; value_names = 1 } }
+    ensures local { result.global ≡ false }
+{
+    Arg::new(alloc, id)
+        .long(id)
+        .value_name(value_name)
+        .help(help)
 }
 
 // `--disk` with a path.
@@ -567,10 +616,7 @@ fn disk_arg<'a>(alloc: Global, help: &'a str) -> Arg<'a>
     ensures rule { rule_of result ≡ disk_words }
     ensures local { result.global ≡ false }
 {
-    Arg::new(alloc, "disk")
-        .long("disk")
-        .value_name("PATH")
-        .help(help)
+    option_arg(alloc, "disk", "PATH", help)
 }
 
 /// How plain command lines are read. It does nothing: a caller's proof takes the law from its contract.

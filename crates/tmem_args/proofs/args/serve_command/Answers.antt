@@ -1,26 +1,12 @@
-use Rattle.std.proofs.Common.{◌≡◌, false, ap, codes, ◌∙◌}
-use Rattle.std.proofs.lemmas.Result.{IfOk-weaker}
-use Rattle.clap.specs.Simple.{App, app_of, app_of_fields, new_app, with_rule}
-use Rattle.clap.specs.declared.builder.command.Command.TheOpen.{Command-F}
-use Rattle.clap.specs.declared.builder.command.Command.TheViews.{out-Command as fields_of}
-use Rattle.clap.specs.declared.builder.command.Command.{Command}
+use Rattle.std.proofs.Common.{codes}
+use Rattle.clap.specs.Simple.{new_app, with_rule}
 use Rattle.tmem_args.specs.CommandLine.{explain_words, shape_words, store_word}
-use Rattle.tmem_args.proofs.Asking.{more, more_local}
 use Rattle.tmem_args.proofs.args.serve_command.Goals as goal
 
 pub returns-clause-app : goal.returns-clause-app
 returns-clause-app c =
-    let top : App = new_app (codes "serve") in
-    let alone : app_of c.about.result ≡ top = ap app_of_fields c.about.ensures ∙ c.new.ensures.app in
-    let a1 = more _ _ _ top store_word c.in_ok-arg.ensures c.store_arg.ensures.local alone c.store_arg.ensures.rule in
-    let a2 = more _ _ _ (with_rule top store_word) shape_words c.in_ok-arg-2.ensures c.shape_arg.ensures.local a1 c.shape_arg.ensures.rule in
-    IfOk-weaker c.arg-3.result _ _
-    (λ command adds. more _ _ command (with_rule (with_rule top store_word) shape_words) explain_words adds c.explain_arg.ensures.local a2 c.explain_arg.ensures.rule)
-    c.arg-3.ensures
+    let two = c.subcommand_with-serve.ensures.app store_word shape_words c.store_arg.ensures.rule c.store_arg.ensures.local c.shape_arg.ensures.rule c.shape_arg.ensures.local in
+    c.with_arg.ensures.app (with_rule (with_rule (new_app (codes "serve")) store_word) shape_words) explain_words two c.explain_arg.ensures.rule c.explain_arg.ensures.local
 
 pub returns-clause-local : goal.returns-clause-local
-returns-clause-local c =
-    let alone : (fields_of c.about.result).has_globals ≡ false = ap (λ (f : Command-F Command). f.has_globals) c.about.ensures ∙ c.new.ensures.local in
-    let a1 = more_local _ _ _ c.in_ok-arg.ensures c.store_arg.ensures.local alone in
-    let a2 = more_local _ _ _ c.in_ok-arg-2.ensures c.shape_arg.ensures.local a1 in
-    IfOk-weaker c.arg-3.result _ _ (λ command adds. more_local _ _ command adds c.explain_arg.ensures.local a2) c.arg-3.ensures
+returns-clause-local c = c.with_arg.ensures.local (c.subcommand_with-serve.ensures.local c.store_arg.ensures.local c.shape_arg.ensures.local) c.explain_arg.ensures.local
