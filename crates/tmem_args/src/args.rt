@@ -315,7 +315,10 @@ fn with_subcommand<'a>(
         → IfOk subcommand.entry (λ sub. (fields_of sub).has_globals ≡ false)
         → IfOk result (λ command. app_of command ≡ adding before words) }
 {
-    command?.subcommand(subcommand?)
+    let (Ok(command), Ok(subcommand)) = (command, subcommand) else {
+        return Err(AllocError);
+    };
+    command.subcommand(subcommand)
 }
 
 // A subcommand of this name with two arguments.
@@ -351,7 +354,10 @@ fn with_arg<'a>(
         → arg.entry.global ≡ false
         → IfOk result (λ command. (fields_of command).has_globals ≡ false) }
 {
-    command?.arg(arg)
+    let Ok(command) = command else {
+        return Err(AllocError);
+    };
+    command.arg(arg)
 }
 
 fn run_command<'a>(alloc: Global) -> Result<Command<'a>, AllocError>
@@ -507,12 +513,8 @@ fn shape_arg<'a>(alloc: Global) -> Arg<'a>
     ensures rule { rule_of result ≡ shape_words }
     ensures local { result.global ≡ false }
 {
-    option_arg(
-        alloc,
-        "shape",
-        "FILE",
-        "The file with its shape [default: STORE.json]",
-    )
+    let help = "The file with its shape [default: STORE.json]";
+    option_arg(alloc, "shape", "FILE", help)
 }
 
 // The path of a store, which has to be given.
@@ -520,12 +522,8 @@ fn store_arg<'a>(alloc: Global) -> Arg<'a>
     ensures rule { rule_of result ≡ store_word }
     ensures local { result.global ≡ false }
 {
-    wanted_arg(
-        alloc,
-        "store",
-        "STORE",
-        "The file of the store, or the block device",
-    )
+    let help = "The file of the store, or the block device";
+    wanted_arg(alloc, "store", "STORE", help)
 }
 
 // A flag of this name.

@@ -7,7 +7,7 @@ use Rattle.tmem_args.proofs.args.asked_in.Goals as goal
 pub returns-in_default-subcommand : goal.returns-in_default-subcommand
 returns-in_default-subcommand c words met =
     let rows = c.in_default-subcommand.ensures.rows in (
-      names_no_other c.args.matches.now words met (λ is. cc (c.in_default.ensures.found.1 is)) (λ is. cc (c.in_default-subcommand_matches.ensures.found.1 is)) (λ is. cc (c.in_default-subcommand_matches-2.ensures.found.1 is)) (λ is. cc (c.in_default-subcommand_matches-3.ensures.found.1 is)) (λ is. cc (c.in_default-subcommand_matches-4.ensures.found.1 is)) (λ is. cc (c.in_default-subcommand_matches-5.ensures.found.1 is)),
+      names_no_other c.args.matches.now words met c.in_default.ensures.found.1 c.in_default-subcommand_matches.ensures.found.1 c.in_default-subcommand_matches-2.ensures.found.1 c.in_default-subcommand_matches-3.ensures.found.1 c.in_default-subcommand_matches-4.ensures.found.1 c.in_default-subcommand_matches-5.ensures.found.1,
       given c.args.matches.now words met (first_of (codes "script")) None rows,
       given c.args.matches.now words met (first_of (codes "disk")) None rows,
     )
@@ -15,7 +15,7 @@ returns-in_default-subcommand c words met =
 pub returns : goal.returns
 returns c words met =
     let rows = c.in-Some-subcommand.ensures.rows in (
-      names_no_other c.args.matches.now words met (λ is. cc (c.in_default.ensures.found.1 is)) (λ is. cc (c.in_default-subcommand_matches.ensures.found.1 is)) (λ is. cc (c.in_default-subcommand_matches-2.ensures.found.1 is)) (λ is. cc (c.in_default-subcommand_matches-3.ensures.found.1 is)) (λ is. cc (c.in_default-subcommand_matches-4.ensures.found.1 is)) (λ is. cc (c.in_default-subcommand_matches-5.ensures.found.1 is)),
+      names_no_other c.args.matches.now words met c.in_default.ensures.found.1 c.in_default-subcommand_matches.ensures.found.1 c.in_default-subcommand_matches-2.ensures.found.1 c.in_default-subcommand_matches-3.ensures.found.1 c.in_default-subcommand_matches-4.ensures.found.1 c.in_default-subcommand_matches-5.ensures.found.1,
       c.paths_of.ensures.script ∙ given c.args.matches.now words met (first_of (codes "script")) _ rows,
       c.paths_of.ensures.disk ∙ given c.args.matches.now words met (first_of (codes "disk")) _ rows,
     )
