@@ -285,12 +285,18 @@ fn number_if_any(matches: &ArgMatches, id: &str) -> Option<u16>
 fn command<'a>(alloc: Global) -> Result<Command<'a>, AllocError>
     ensures { IfOk result (λ command. app_of command ≡ command_line) }
 {
-    let with_run = with_subcommand(program(alloc), run_command(alloc));
-    let with_threads = with_subcommand(with_run, threads_command(alloc));
-    let with_bench = with_subcommand(with_threads, bench_command(alloc));
-    let with_show = with_subcommand(with_bench, show_command(alloc));
-    let with_init = with_subcommand(with_show, init_command(alloc));
-    let with_serve = with_subcommand(with_init, serve_command(alloc));
+    let with_threads = with_subcommand(
+        with_subcommand(program(alloc), run_command(alloc)),
+        threads_command(alloc),
+    );
+    let with_show = with_subcommand(
+        with_subcommand(with_threads, bench_command(alloc)),
+        show_command(alloc),
+    );
+    let with_serve = with_subcommand(
+        with_subcommand(with_show, init_command(alloc)),
+        serve_command(alloc),
+    );
     with_subcommand(with_serve, check_command(alloc))
 }
 
