@@ -1,3 +1,4 @@
+pub mod Calls
 pub mod Fills
 pub mod Hull
 pub mod Laws

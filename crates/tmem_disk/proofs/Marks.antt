@@ -1,9 +1,9 @@
 -- The marks of a device in memory after a write.
-use Rattle.std.proofs.Common.{◌≡◌, ⊎_elim, ℕ, ◌+◌, ◌-◌, ◌≤◌, Bool, true, List, length, take, drop, get_or, replicate, sym, ◌∙◌, ap, subst, arith, length-drop}
+use Rattle.std.proofs.Common.{◌≡◌, ⊎_elim, ℕ, ◌+◌, ◌-◌, ◌<◌, ◌≤◌, Bool, true, false, List, length, take, drop, get_or, replicate, sym, ◌∙◌, ap, subst, arith, length-drop}
 use Rattle.std.proofs.lemmas.List.{length-take-le, get_or-take, get_or-drop, get_or-replicate, length-replicate}
 use Rattle.std.proofs.lemmas.Bool.{cases_lt, false≢true}
 use Rattle.tmem_disk.specs.Disk.{overwritten, SameOutside}
-use Rattle.tmem_disk.specs.Sim.{LeftBy}
+use Rattle.tmem_disk.specs.Sim.{LeftBy, Bytes}
 use Rattle.tmem_disk.proofs.Ranges.{length-overwritten, get_or-below, get_or-within, get_or-above, take-overwritten, drop-overwritten}
 
 -- what may be left after a write might have been left before it, with anything in the range
@@ -76,3 +76,28 @@ left_all synced marks at n same fits c from = record {
 
     within : at + length trues ≤ length marks
     within = omega (arith, long)
+
+-- The marks once a range is marked: as many as before, and none outside the range where none was.
+module _ (marks new : List Bool) (at n : ℕ) (fits : at + n ≤ length marks) (is : new ≡ overwritten marks at (replicate n true)) where
+  trues_long : length (replicate n true) ≡ n
+  trues_long = length-replicate n true
+
+  inside : at + length (replicate n true) ≤ length marks
+  inside = omega (arith, trues_long, fits)
+
+  pub marked_long : length new ≡ length marks
+  marked_long = ap (λ (l : List Bool). length l) is ∙ length-overwritten marks at (replicate n true) inside
+
+  pub unmarked_below : (i : ℕ) → i < at → get_or marks i false ≡ false → get_or new i false ≡ false
+  unmarked_below i below none = ap (λ (l : List Bool). get_or l i false) is ∙ get_or-below marks at (replicate n true) inside i false below ∙ none
+
+  pub unmarked_above : (i : ℕ) → at + n ≤ i → get_or marks i false ≡ false → get_or new i false ≡ false
+  unmarked_above i above none = ap (λ (l : List Bool). get_or l i false) is ∙ get_or-above marks at (replicate n true) inside i false (omega (arith, trues_long, above)) ∙ none
+
+-- bytes are the same where their parts are
+abbrev bytes_of : List ℕ → List ℕ → List Bool → Bytes
+bytes_of present synced marks = record { present = present; synced = synced; marks = marks }
+
+pub same_bytes : (present synced synced' : List ℕ) (marks marks' : List Bool) → synced ≡ synced' → marks ≡ marks' → bytes_of present synced marks ≡ bytes_of present synced' marks'
+same_bytes present synced synced' marks marks' first second =
+    ap (λ (l : List ℕ). bytes_of present l marks) first ∙ ap (λ (l : List Bool). bytes_of present synced' l) second

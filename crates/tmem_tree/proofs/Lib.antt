@@ -8,3 +8,5 @@ mod Good
 mod Checked
 mod Fewer
 mod Known
+mod Whole
+mod Least

@@ -1,9 +1,9 @@
-use Rattle.std.proofs.lemmas.Grind.{common_steps}
 use Rattle.std.proofs.Common.{◌≡◌, take, refl, arith}
 use Rattle.std.proofs.lemmas.List.{take_all}
 use Rattle.tmem_tree.specs.Limits.{is_check, checks_name, lacks_shape}
 use Rattle.tmem_tree.specs.Shapes.{names_of}
 use Rattle.tmem_tree.proofs.Laws.{count_items, count-Seq}
+use Rattle.tmem_tree.proofs.Good.{when_two, or_else_two}
 use Rattle.tmem_tree.proofs.Known.{shapes_kept, shapes_kept_in, count_items-take_more, count_items-drop_more}
 use Rattle.tmem_tree.proofs.shapes.+collect.Goals as goal
 
@@ -57,7 +57,39 @@ returns-in-OrElse-clause-known t c =
     grind (arith, first, second)
 
 pub returns-in-When-clause-kept : goal.returns-in-When-clause-kept
-returns-in-When-clause-kept t c = grind (arith, common_steps)
+returns-in-When-clause-kept t c = λ name there. c.collect-in-When-2.ensures.kept name (c.collect-in-When.ensures.kept name there)
+
+pub returns-in-When-clause-room : goal.returns-in-When-clause-room
+returns-in-When-clause-room t c =
+    let two = when_two c.args.tx.now c.in-When.reg c.in-When.then c.in-When.other c.in-When.is in
+    omega (arith, two.counts is_check, rw c.deref.ensures at c.collect-in-When.ensures.room, rw c.deref-in-When.ensures at c.collect-in-When-2.ensures.room)
+
+pub returns-in-When-clause-among : goal.returns-in-When-clause-among
+returns-in-When-clause-among t c = λ all. c.collect-in-When-2.ensures.among (c.collect-in-When.ensures.among all)
+
+pub returns-in-When-clause-checked : goal.returns-in-When-clause-checked
+returns-in-When-clause-checked t c = λ name.
+    let two = when_two c.args.tx.now c.in-When.reg c.in-When.then c.in-When.other c.in-When.is in
+    omega (arith, two.counts (checks_name name), rw c.deref.ensures at c.collect-in-When.ensures.checked name, rw c.deref-in-When.ensures at c.collect-in-When-2.ensures.checked name)
+
+pub returns-in-When-clause-once : goal.returns-in-When-clause-once
+returns-in-When-clause-once t c = λ distinct. c.collect-in-When-2.ensures.once (c.collect-in-When.ensures.once distinct)
+
+pub returns-in-OrElse-clause-kept : goal.returns-in-OrElse-clause-kept
+returns-in-OrElse-clause-kept t c = λ name there. c.collect-in-OrElse-2.ensures.kept name (c.collect-in-OrElse.ensures.kept name there)
+
+pub returns-in-OrElse-clause-room : goal.returns-in-OrElse-clause-room
+returns-in-OrElse-clause-room t c =
+    let two = or_else_two c.args.tx.now c.in-OrElse.first c.in-OrElse.second c.in-OrElse.is in
+    omega (arith, two.counts is_check, rw c.deref-in-OrElse.ensures at c.collect-in-OrElse.ensures.room, rw c.deref-in-OrElse-2.ensures at c.collect-in-OrElse-2.ensures.room)
+
+pub returns-in-OrElse-clause-among : goal.returns-in-OrElse-clause-among
+returns-in-OrElse-clause-among t c = λ all. c.collect-in-OrElse-2.ensures.among (c.collect-in-OrElse.ensures.among all)
 
 pub returns-in-OrElse-clause-checked : goal.returns-in-OrElse-clause-checked
-returns-in-OrElse-clause-checked t c = grind (arith, common_steps)
+returns-in-OrElse-clause-checked t c = λ name.
+    let two = or_else_two c.args.tx.now c.in-OrElse.first c.in-OrElse.second c.in-OrElse.is in
+    omega (arith, two.counts (checks_name name), rw c.deref-in-OrElse.ensures at c.collect-in-OrElse.ensures.checked name, rw c.deref-in-OrElse-2.ensures at c.collect-in-OrElse-2.ensures.checked name)
+
+pub returns-in-OrElse-clause-once : goal.returns-in-OrElse-clause-once
+returns-in-OrElse-clause-once t c = λ distinct. c.collect-in-OrElse-2.ensures.once (c.collect-in-OrElse.ensures.once distinct)
