@@ -2,8 +2,10 @@ use Rattle.std.proofs.lemmas.Grind.{common_steps}
 use Rattle.std.proofs.Common.{◌≡◌, ◌∙◌, sym, ap, set, refl, length-set, to_z, of_z, w64, rules, arith}
 use Rattle.std.proofs.lemmas.List.{drop_more, drop_all}
 use Rattle.tmem_tree.specs.declared.tx.Tx.TheViews.{the_lemmas}
-use Rattle.tmem_tree.specs.Limits.{is_put}
+use Rattle.tmem_tree.specs.declared.tx.Tx.{Tx}
+use Rattle.tmem_tree.specs.Limits.{one_if, is_put}
 use Rattle.tmem_tree.proofs.Laws.{count_items}
+use Rattle.tmem_tree.proofs.Good.{each_some, when_two, or_else_two}
 use Rattle.tmem_tree.proofs.Among.{with_number-Seq, puts-Seq, last_turn, no_turn}
 use Rattle.tmem_tree.proofs.numbers.+change_number.Goals as goal
 
@@ -46,3 +48,55 @@ returns-in_err-left-in-OrElse-clause-tree t c = grind (arith, common_steps)
 
 pub returns-in_ok-left-in-OrElse-clause-tree : goal.returns-in_ok-left-in-OrElse-clause-tree
 returns-in_ok-left-in-OrElse-clause-tree t c = grind (arith, common_steps)
+
+pub returns-in_err-left-in-When-clause-left : goal.returns-in_err-left-in-When-clause-left
+returns-in_err-left-in-When-clause-left t c = rw c.from_residual-in_err-left-in-When.ensures tt
+
+pub returns-in_err-left-in-When-clause-found : goal.returns-in_err-left-in-When-clause-found
+returns-in_err-left-in-When-clause-found t c = λ none.
+    let two = when_two c.args.tx.now c.in-When.reg c.in-When.then c.in-When.other c.in-When.is in
+    let here : one_if (is_put c.args.tx.now) ≡ 0 = ap (λ (t : Tx). one_if (is_put t)) c.in-When.is in
+    let first = c.deref_mut.ensures.value ∙ ap (λ v. v.value) c.in-When.then-is in
+    omega (arith, two.counts is_put, here, (rw first at c.in_err-left-in-When.ensures.found) refl)
+
+pub returns-in_ok-left-in-When-clause-left : goal.returns-in_ok-left-in-When-clause-left
+returns-in_ok-left-in-When-clause-left t c =
+    let two = when_two c.args.tx.now c.in-When.reg c.in-When.then c.in-When.other c.in-When.is in
+    let here : one_if (is_put c.args.tx.now) ≡ 0 = ap (λ (t : Tx). one_if (is_put t)) c.in-When.is in
+    let first = c.deref_mut.ensures.value ∙ ap (λ v. v.value) c.in-When.then-is in
+    let second = c.deref_mut-in-When.ensures.value ∙ ap (λ v. v.value) c.in-When.other-is in
+    each_some c.change_number-in-When-2.result (λ left so. omega (arith, two.counts is_put, here, rw first at c.in_ok-left-in-When.ensures.left, so)) (rw second at c.change_number-in-When-2.ensures.left)
+
+pub returns-in_ok-left-in-When-clause-found : goal.returns-in_ok-left-in-When-clause-found
+returns-in_ok-left-in-When-clause-found t c = λ none.
+    let two = when_two c.args.tx.now c.in-When.reg c.in-When.then c.in-When.other c.in-When.is in
+    let here : one_if (is_put c.args.tx.now) ≡ 0 = ap (λ (t : Tx). one_if (is_put t)) c.in-When.is in
+    let first = c.deref_mut.ensures.value ∙ ap (λ v. v.value) c.in-When.then-is in
+    let second = c.deref_mut-in-When.ensures.value ∙ ap (λ v. v.value) c.in-When.other-is in
+    omega (arith, two.counts is_put, here, rw first at c.in_ok-left-in-When.ensures.left, (rw second at c.change_number-in-When-2.ensures.found) none)
+
+pub returns-in_err-left-in-OrElse-clause-left : goal.returns-in_err-left-in-OrElse-clause-left
+returns-in_err-left-in-OrElse-clause-left t c = rw c.from_residual-in_err-left-in-OrElse.ensures tt
+
+pub returns-in_err-left-in-OrElse-clause-found : goal.returns-in_err-left-in-OrElse-clause-found
+returns-in_err-left-in-OrElse-clause-found t c = λ none.
+    let two = or_else_two c.args.tx.now c.in-OrElse.first c.in-OrElse.second c.in-OrElse.is in
+    let here : one_if (is_put c.args.tx.now) ≡ 0 = ap (λ (t : Tx). one_if (is_put t)) c.in-OrElse.is in
+    let first = c.deref_mut-in-OrElse.ensures.value ∙ ap (λ v. v.value) c.in-OrElse.first-is in
+    omega (arith, two.counts is_put, here, (rw first at c.in_err-left-in-OrElse.ensures.found) refl)
+
+pub returns-in_ok-left-in-OrElse-clause-left : goal.returns-in_ok-left-in-OrElse-clause-left
+returns-in_ok-left-in-OrElse-clause-left t c =
+    let two = or_else_two c.args.tx.now c.in-OrElse.first c.in-OrElse.second c.in-OrElse.is in
+    let here : one_if (is_put c.args.tx.now) ≡ 0 = ap (λ (t : Tx). one_if (is_put t)) c.in-OrElse.is in
+    let first = c.deref_mut-in-OrElse.ensures.value ∙ ap (λ v. v.value) c.in-OrElse.first-is in
+    let second = c.deref_mut-in-OrElse-2.ensures.value ∙ ap (λ v. v.value) c.in-OrElse.second-is in
+    each_some c.change_number-in-OrElse-2.result (λ left so. omega (arith, two.counts is_put, here, rw first at c.in_ok-left-in-OrElse.ensures.left, so)) (rw second at c.change_number-in-OrElse-2.ensures.left)
+
+pub returns-in_ok-left-in-OrElse-clause-found : goal.returns-in_ok-left-in-OrElse-clause-found
+returns-in_ok-left-in-OrElse-clause-found t c = λ none.
+    let two = or_else_two c.args.tx.now c.in-OrElse.first c.in-OrElse.second c.in-OrElse.is in
+    let here : one_if (is_put c.args.tx.now) ≡ 0 = ap (λ (t : Tx). one_if (is_put t)) c.in-OrElse.is in
+    let first = c.deref_mut-in-OrElse.ensures.value ∙ ap (λ v. v.value) c.in-OrElse.first-is in
+    let second = c.deref_mut-in-OrElse-2.ensures.value ∙ ap (λ v. v.value) c.in-OrElse.second-is in
+    omega (arith, two.counts is_put, here, rw first at c.in_ok-left-in-OrElse.ensures.left, (rw second at c.change_number-in-OrElse-2.ensures.found) none)
