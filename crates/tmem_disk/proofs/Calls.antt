@@ -1,6 +1,6 @@
 -- A call of a device that failed, and one that did not, from the parts that they change.
-use Rattle.std.proofs.Common.{◌≡◌, refl, sym, ◌∙◌, arith}
-use Rattle.std.specs.Prelude.{◌+◌, ◌-◌, ◌^◌, min, Some, Ok, Err}
+use Rattle.std.proofs.Common.{◌≡◌, refl, arith}
+use Rattle.std.specs.Prelude.{Some, Ok, Err}
 use Rattle.std.proofs.lemmas.Bool.{false≢true}
 use Rattle.tmem_disk.specs.declared.disk.DeviceFault.{DeviceFault}
 use Rattle.tmem_disk.specs.Disk.{DeviceView, IsCall, after_fault}

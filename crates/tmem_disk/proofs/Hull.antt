@@ -1,11 +1,27 @@
 -- What a sync leaves that looks only at a range: it is enough that nothing outside the range is marked.
-use Rattle.std.proofs.Common.{◌≡◌, ⊎_elim, ℕ, ◌+◌, ◌-◌, ◌<◌, ◌≤◌, Bool, true, false, List, length, drop, get_or, replicate, sym, ◌∙◌, ap, arith, length-drop}
+use Rattle.std.proofs.Common.{◌≡◌, ⊎_elim, ℕ, zero, suc, ◌+◌, ◌-◌, ◌<◌, ◌≤◌, Bool, true, false, List, length, drop, get_or, replicate, refl, sym, ◌∙◌, ap, arith, length-drop}
 use Rattle.std.specs.Prelude.{slice_range}
 use Rattle.std.proofs.lemmas.List.{length-take-le, get_or-take, get_or-drop, get_or-replicate, get_or_default, length-replicate, same_lists}
 use Rattle.std.proofs.lemmas.Bool.{cases_lt}
 use Rattle.tmem_disk.specs.Disk.{overwritten}
 use Rattle.tmem_disk.specs.Sim.{LeftBy}
 use Rattle.tmem_disk.proofs.Ranges.{length-overwritten, get_or-below, get_or-within, get_or-above}
+
+-- of no marks none is set
+pub none_marked : (n i : ℕ) → get_or (replicate n false) i false ≡ false
+none_marked zero i = refl
+none_marked (suc n) zero = refl
+none_marked (suc n) (suc i) = none_marked n i
+
+-- where none is set, a crash leaves the bytes as at the last sync alone
+pub left_once : (present synced c : List ℕ) (marks : List Bool) → synced ≡ present → marks ≡ replicate (length present) false → LeftBy synced marks c → c ≡ present
+left_once present synced c marks is none left = same_lists c present long (λ i d below.
+    let here : i < length present = omega (arith, long, below) in
+    let unmarked : get_or marks i true ≡ false = ap (λ (l : List Bool). get_or l i true) none ∙ get_or-replicate (length present) i false true here in
+    get_or_default c i d 0 below ∙ left.stays i unmarked ∙ ap (λ (l : List ℕ). get_or l i 0) is ∙ get_or_default present i 0 d here)
+  where
+    long : length c ≡ length present
+    long = left.size ∙ ap (λ (l : List ℕ). length l) is
 
 module _ (low high : ℕ) (marks : List Bool) (ordered : low ≤ high) (inside : high ≤ length marks) (before : (i : ℕ) → i < low → get_or marks i false ≡ false) (behind : (i : ℕ) → high ≤ i → get_or marks i false ≡ false) where
   -- the bytes outside the range are those as at the last sync

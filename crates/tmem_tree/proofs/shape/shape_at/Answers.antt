@@ -7,3 +7,12 @@ of-requires g c = grind (arith, elements)
 
 pub returns-clause-within : goal.returns-clause-within
 returns-clause-within g c = grind (arith, elements)
+
+pub returns-clause-name : goal.returns-clause-name
+returns-clause-name g c = c.name.ensures
+
+pub returns-clause-footprint : goal.returns-clause-footprint
+returns-clause-footprint g c = rw c.of.ensures c.footprint.ensures
+
+pub returns-clause-meant : goal.returns-clause-meant
+returns-clause-meant g c = grind (arith, elements)

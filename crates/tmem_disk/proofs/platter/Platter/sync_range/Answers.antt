@@ -1,5 +1,5 @@
-use Rattle.std.proofs.Common.{length, ◌∙◌, arith}
-use Rattle.tmem_disk.proofs.Hull.{synced_over, cleared}
+use Rattle.std.proofs.Common.{false, length, get_or, ap, ◌∙◌, arith}
+use Rattle.tmem_disk.proofs.Hull.{synced_over, cleared, none_marked}
 use Rattle.tmem_disk.proofs.platter.Platter.sync_range.Goals as goal
 
 pub returns-clause-synced : goal.returns-clause-synced
@@ -11,3 +11,14 @@ pub returns-clause-marks : goal.returns-clause-marks
 returns-clause-marks c =
     let p = c.args.self.now in
     c.set_marks.ensures ∙ cleared c.args.low c.args.high p.marks.items c.requires.ordered (omega arith) c.requires.before c.requires.behind (length c.args.present.now) c.requires.long
+
+pub invariant_of-self : goal.invariant_of-self
+invariant_of-self c =
+    let p = c.args.self.now in
+    let none = c.set_marks.ensures ∙ cleared c.args.low c.args.high p.marks.items c.requires.ordered (omega arith) c.requires.before c.requires.behind (length c.args.present.now) c.requires.long in
+    record {
+      ordered = omega arith;
+      within = omega arith;
+      before = λ i below. absurd (omega (arith, below));
+      behind = λ i above. ap (λ l. get_or l i false) none ∙ none_marked (length c.args.present.now) i;
+    }
