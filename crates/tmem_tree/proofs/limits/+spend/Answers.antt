@@ -19,6 +19,3 @@ returns-after-loop-t-clause-enough g t c = grind (arith, common_steps)
 
 pub returns-after-loop-t-clause-lacking : goal.returns-after-loop-t-clause-lacking
 returns-after-loop-t-clause-lacking g t c = grind (arith, common_steps)
-
-pub returns-in_ok-left-in-When-clause-enough : goal.returns-in_ok-left-in-When-clause-enough
-returns-in_ok-left-in-When-clause-enough g t c = grind (arith, common_steps)
