@@ -1,6 +1,6 @@
 -- Each entry of a table of invariants has its own meaning.
-use Rattle.std.proofs.Common.{◌≡◌, ℕ, ℤ, Bool, List, [], ◌∷◌, All, codes, refl}
-use Rattle.std.proofs.lemmas.List.Elements.{All-nil, All-cons}
+use Rattle.std.proofs.Common.{◌≡◌, ℕ, ℤ, Bool, List, [], ◌∷◌, All, codes, filter, refl}
+use Rattle.std.proofs.lemmas.List.Elements.{All-nil, All-cons, All-filter}
 use Rattle.std.specs.Borrow.{Bor}
 use Rattle.tmem_invariants.specs.Answers.{Gives, IsMeant}
 use Rattle.tmem_builtins.specs.Builtins.{builtin_tests}
@@ -18,11 +18,6 @@ sum_meant name footprint post named over gives = rw (named, over) (record { over
 pub ordered_meant : (name footprint : List ℕ) (post : Post) → name ≡ codes "ordered" → footprint ≡ 2 ∷ 3 ∷ [] → Gives post 2 are_ordered → IsMeant builtin_tests name footprint post
 ordered_meant name footprint post named over gives = rw (named, over) (record { over = refl; answers = gives })
 
-pub one_meant : {E : Type 0} (P : E → Type 0) (es : List E) (x : E) → es ≡ x ∷ [] → P x → All P es
-one_meant P es x is first = rw is (All-cons P x [] first (All-nil P))
-
-pub two_meant : {E : Type 0} (P : E → Type 0) (es : List E) (x y : E) → es ≡ x ∷ y ∷ [] → P x → P y → All P es
-two_meant P es x y is first second = rw is (All-cons P x (y ∷ []) first (All-cons P y [] second (All-nil P)))
-
-pub three_meant : {E : Type 0} (P : E → Type 0) (es : List E) (x y z : E) → es ≡ x ∷ y ∷ z ∷ [] → P x → P y → P z → All P es
-three_meant P es x y z is first second third = rw is (All-cons P x (y ∷ z ∷ []) first (All-cons P y (z ∷ []) second (All-cons P z [] third (All-nil P))))
+-- some of three that are meant so
+pub some_meant : {E : Type 0} (P : E → Type 0) (p : E → Bool) (es : List E) (x y z : E) → es ≡ filter p (x ∷ y ∷ z ∷ []) → P x → P y → P z → All P es
+some_meant P p es x y z is first second third = rw is (All-filter p P (x ∷ y ∷ z ∷ []) (All-cons P x (y ∷ z ∷ []) first (All-cons P y (z ∷ []) second (All-cons P z [] third (All-nil P)))))

@@ -1,10 +1,11 @@
 //! The invariants that scripts can check: `nonneg`, `sum` and `ordered`.
-ghost use Rattle.std.specs.Prelude.{◌≡◌, ◌∷◌, [], codes, length, map, IfErr, IfOk};
-ghost use Rattle.tmem_invariants.specs.Answers.{MayCall, Gives};
+ghost use Rattle.std.specs.Prelude.{◌≡◌, ◌∷◌, [], All, codes, filter, length, map, IfErr, IfOk};
+ghost use Rattle.tmem_invariants.specs.Answers.{MayCall, Gives, HasMeaning};
+ghost use Rattle.tmem_invariants.specs.TableNames.{AreBelow, AreTableNames, IsFootprint};
 ghost use Rattle.tmem_builtins.specs.Builtins.{builtin_names, builtin_tests};
-ghost use Rattle.tmem_builtins.specs.Invariants.{is_not_negative, add_to_hundred, are_ordered, fitting};
+ghost use Rattle.tmem_builtins.specs.Invariants.{is_not_negative, add_to_hundred, are_ordered, is_footprint_within, fitting};
 
-use std::alloc::Global;
+use std::alloc::{AllocError, Global};
 use tmem_fault::{Fault, Name};
 use tmem_invariants::Invariants;
 use tmem_tables::{Invariant, Table, Test};
@@ -83,13 +84,47 @@ pub fn table_of(
     ensures stated { IfOk result (λ table. ⟦<Table as Invariants>⟧.is_stated table builtin_tests) }
     ensures refused { IfErr result (λ fault. fault ≡ Fault.Memory) }
 {
-    let floor = Invariant::new(nonneg_name(), vec![in alloc; 0]?, nonneg)?;
-    let pair = Invariant::new(sum_name(), vec![in alloc; 0, 1]?, sum)?;
-    let order = Invariant::new(ordered_name(), vec![in alloc; 2, 3]?, ordered)?;
+    let floor = entry(alloc, nonneg_name(), [0], nonneg)?;
+    let pair = entry(alloc, sum_name(), [0, 1], sum)?;
+    let order = entry(alloc, ordered_name(), [2, 3], ordered)?;
+    Table::of(alloc, those_below(alloc, vars, floor, pair, order)?, vars)
+}
+
+// The invariant over these variables.
+fn entry<const N: usize>(
+    alloc: Global,
+    name: Name,
+    over: [u16; N],
+    test: Test,
+) -> Result<Invariant, Fault>
+    requires footprint { IsFootprint over }
+    requires callable { MayCall (Test.pre test) (length over) }
+    requires stated { HasMeaning (Test.post test) (length over) }
+    ensures name { IfOk result (λ invariant. invariant.name ≡ name) }
+    ensures footprint { IfOk result (λ invariant. invariant.footprint.items ≡ over.entry) }
+    ensures test { IfOk result (λ invariant. invariant.test ≡ test) }
+    ensures refused { IfErr result (λ fault. fault ≡ Fault.Memory) }
+{
+    Invariant::new(name, Vec::from_array(alloc, over)?, test)
+}
+
+// Those of the three invariants whose variables are below `vars`, in this order.
+fn those_below(
+    alloc: Global,
+    vars: u16,
+    floor: Invariant,
+    pair: Invariant,
+    order: Invariant,
+) -> Result<Vec<Invariant>, AllocError>
+    requires names { (floor.name ≡ codes "nonneg") × (pair.name ≡ codes "sum") × (order.name ≡ codes "ordered") }
+    requires footprints { (floor.footprint.items ≡ 0 ∷ []) × (pair.footprint.items ≡ 0 ∷ 1 ∷ []) × (order.footprint.items ≡ 2 ∷ 3 ∷ []) }
+    ensures entries { IfOk result (λ entries. entries.items ≡ filter (λ entry. is_footprint_within vars entry.footprint.items) (floor ∷ pair ∷ order ∷ [])) }
+    ensures fit { IfOk result (λ entries. AreTableNames (map (λ entry. entry.name) entries.items) × All (λ entry. AreBelow vars entry.footprint.items) entries.items) }
+{
     match vars {
-        0 => Table::of(alloc, Vec::new(alloc), vars),
-        1 => Table::of(alloc, vec![in alloc; floor]?, vars),
-        2 | 3 => Table::of(alloc, vec![in alloc; floor, pair]?, vars),
-        _ => Table::of(alloc, vec![in alloc; floor, pair, order]?, vars),
+        0 => Ok(Vec::new(alloc)),
+        1 => Ok(vec![in alloc; floor]?),
+        2 | 3 => Ok(vec![in alloc; floor, pair]?),
+        _ => Ok(vec![in alloc; floor, pair, order]?),
     }
 }
