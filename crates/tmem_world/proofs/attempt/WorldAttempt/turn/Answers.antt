@@ -6,12 +6,12 @@ use Rattle.indexmap.specs.IndexMap.{insert_entry}
 use Rattle.tmem_effect.specs.Names.{has_name}
 use Rattle.tmem_effect.specs.Writes.{look}
 use Rattle.tmem_tree.specs.Shapes.{AreMeant, names_of}
-use Rattle.tmem_tentative.specs.Cursors.{probe_of}
+use Rattle.tmem_tentative.specs.Cursors.{attempt_of, probe_of}
 use Rattle.tmem_tentative.specs.declared.attempt.Outcome.TheVariants as outcome
 use Rattle.tmem_tentative.specs.declared.attempt.Probe.{Probe as Asked}
 use Rattle.tmem_core.specs.Held.{core_state, core_table}
 use Rattle.tmem_world.proofs.HeldAttempts.{plan_fits, with_plan_fits}
-use Rattle.tmem_world.proofs.TurnedPoints.{comes_to, filled_in}
+use Rattle.tmem_world.proofs.TurnedPoints.{comes_to, filled_in, stays_at}
 use Rattle.tmem_world.proofs.attempt.WorldAttempt.turn.Goals as goal
 
 pub peek-value-requires : goal.peek-value-requires
@@ -78,3 +78,50 @@ returns-in-Ok-Ended-clause-fits g c = λ shapes held.
     let named = rw c.in-Ok-Ended.field-0-is at (c.in-Ok-Ended.ensures.named names fits.names) in
     with_plan_fits vars (g.S.StoredSteps.arities c.args.steps.now) (g.S.StoredSteps.is_stated c.args.steps.now) names (λ tests. AreMeant tests shapes) _ c.in-Some.plan c.in-Some.is
     (record { variables = fits.variables; steps = fits.steps; names = fits.names; shapes = fits.shapes; stands = c.advance.ensures.stands; ended = λ ended. (within, named) })
+
+pub returns-in-Ok-Ended-clause-begun : goal.returns-in-Ok-Ended-clause-begun
+returns-in-Ok-Ended-clause-begun g c = λ plan is going.
+    let so = c.advance.ensures in
+    let fits = plan_fits _ _ _ _ _ c.args.self.now c.in-Some.plan c.in-Some.is c.requires in (
+      comes_to (g.S.StoredSteps.is_stated c.args.steps.now) (g.T.Invariants.is_stated (core_table c.args.core.now)) c.args.self.now.plan plan c.in-Some.plan is c.in-Some.is fits.shapes c.args.self.now.cursor c.advance.new.self
+          so.given so.answers (outcome.Ended (attempt_of c.advance.new.self)) (rw c.in-Ok-Ended.field-0-is at c.in-Ok-Ended.ensures.right),
+      so.given,
+      rw c.in-Ok-Ended.field-0-is at c.in-Ok-Ended.ensures.answered,
+    )
+
+pub returns-in-Err-clause-begun : goal.returns-in-Err-clause-begun
+returns-in-Err-clause-begun g c = λ plan is going. (c.in-Err.ensures.fault, c.in-Err.ensures.same)
+
+pub returns-in-Ok-Need-clause-fits : goal.returns-in-Ok-Need-clause-fits
+returns-in-Ok-Need-clause-fits g c = λ shapes held.
+    let plan = c.in-Some.plan in
+    let fits = plan_fits _ _ _ _ _ c.args.self.now plan c.in-Some.is held in
+    with_plan_fits (length (core_state c.args.core.now).values) (g.S.StoredSteps.arities c.args.steps.now) (g.S.StoredSteps.is_stated c.args.steps.now) (names_of shapes) (λ tests. AreMeant tests shapes) _ plan c.in-Some.is
+    (record { variables = fits.variables; steps = fits.steps; names = fits.names; shapes = fits.shapes; stands = λ m is. c.give.ensures.stands m plan (c.advance.ensures.stands m is); ended = λ ended. absurd (c.give.ensures.going ended) })
+
+pub returns-in-Ok-Probe-clause-fits : goal.returns-in-Ok-Probe-clause-fits
+returns-in-Ok-Probe-clause-fits g c = λ shapes held.
+    let plan = c.in-Some.plan in
+    let fits = plan_fits _ _ _ _ _ c.args.self.now plan c.in-Some.is held in
+    with_plan_fits (length (core_state c.args.core.now).values) (g.S.StoredSteps.arities c.args.steps.now) (g.S.StoredSteps.is_stated c.args.steps.now) (names_of shapes) (λ tests. AreMeant tests shapes) _ plan c.in-Some.is
+    (record { variables = fits.variables; steps = fits.steps; names = fits.names; shapes = fits.shapes; stands = λ m is. c.answer.ensures.stands m plan (c.advance.ensures.stands m is); ended = λ ended. absurd (c.answer.ensures.going ended) })
+
+pub returns-in-Ok-Need-clause-at : goal.returns-in-Ok-Need-clause-at
+returns-in-Ok-Need-clause-at g c = λ plan m tests is means asked at.
+    let fits = plan_fits _ _ _ _ _ c.args.self.now c.in-Some.plan c.in-Some.is c.requires in
+    c.give.ensures.at m tests plan.tree (stays_at (g.S.StoredSteps.is_stated c.args.steps.now) (g.T.Invariants.is_stated (core_table c.args.core.now)) c.args.self.now.plan plan c.in-Some.plan is c.in-Some.is fits.shapes c.args.self.now.cursor c.advance.new.self c.advance.ensures.at m tests means asked at)
+
+pub returns-in-Ok-Ended-clause-at : goal.returns-in-Ok-Ended-clause-at
+returns-in-Ok-Ended-clause-at g c = λ plan m tests is means asked at.
+    let fits = plan_fits _ _ _ _ _ c.args.self.now c.in-Some.plan c.in-Some.is c.requires in
+    stays_at (g.S.StoredSteps.is_stated c.args.steps.now) (g.T.Invariants.is_stated (core_table c.args.core.now)) c.args.self.now.plan plan c.in-Some.plan is c.in-Some.is fits.shapes c.args.self.now.cursor c.advance.new.self c.advance.ensures.at m tests means asked at
+
+pub returns-in-Err-clause-at : goal.returns-in-Err-clause-at
+returns-in-Err-clause-at g c = λ plan m tests is means asked at.
+    let fits = plan_fits _ _ _ _ _ c.args.self.now c.in-Some.plan c.in-Some.is c.requires in
+    stays_at (g.S.StoredSteps.is_stated c.args.steps.now) (g.T.Invariants.is_stated (core_table c.args.core.now)) c.args.self.now.plan plan c.in-Some.plan is c.in-Some.is fits.shapes c.args.self.now.cursor c.advance.new.self c.advance.ensures.at m tests means asked at
+
+pub returns-in-Ok-Probe-clause-at : goal.returns-in-Ok-Probe-clause-at
+returns-in-Ok-Probe-clause-at g c = λ plan m tests is means asked at.
+    let fits = plan_fits _ _ _ _ _ c.args.self.now c.in-Some.plan c.in-Some.is c.requires in
+    c.answer.ensures.at m tests plan.tree (stays_at (g.S.StoredSteps.is_stated c.args.steps.now) (g.T.Invariants.is_stated (core_table c.args.core.now)) c.args.self.now.plan plan c.in-Some.plan is c.in-Some.is fits.shapes c.args.self.now.cursor c.advance.new.self c.advance.ensures.at m tests means asked at) (c.probe-held.ensures tests asked ∙ ap (λ (p : Asked). tests.test p.name p.values) c.probe-probe.ensures)
