@@ -464,9 +464,7 @@ fn is_played(lines: &[Line]) -> bool {
         Part::Crowd,
         Part::After,
     ];
-    parts
-        .iter()
-        .any(|part| has_part(lines, *part))
+    parts.iter().any(|part| has_part(lines, *part))
 }
 
 /// Plays the scenes of a table, each in a new store. Fails with what went wrong first.
