@@ -1,6 +1,7 @@
 -- What a command line was read as.
 use Rattle.std.proofs.Common.{◌≡◌, ◌≢◌, ◌||◌, ◌∷◌, inl, inr, false, true, List, [], Option, Some, None, option_map, option_and_then, codes, refl, sym, ap, ◌∙◌}
 use Rattle.std.specs.Prelude.{Box}
+use Rattle.std.proofs.lemmas.Bool.{false≢true}
 use Rattle.clap.specs.declared.error.kind.ErrorKind.{ErrorKind}
 use Rattle.clap.specs.Kinds.{Kinds}
 use Rattle.clap.specs.Matches.{subcommand_name_of}
@@ -36,10 +37,6 @@ pub of_rows : {A : Type 0} (f : List Row → Option A) (found : Option (Text × 
 of_rows f None = refl
 of_rows f (Some p) = refl
 
--- what is not there is not met
-none : false ≡ true → ⊥
-none e = cc
-
 -- the name of the subcommand
 name_of : {Z : Type 0} (o : Option (Box SubCommand Z)) → option_map (λ p. p.0) (subcommand_rows o) ≡ option_map (λ b. (out-SubCommand (box_value b)).name.now) o
 name_of None = refl
@@ -50,17 +47,18 @@ module _ (matches : ArgMatches) (words : List Text) (same : subcommand_rows_of m
   pub named : command_in words ≡ subcommand_name_of matches
   named = ap (option_map (λ p. p.0)) (sym same) ∙ name_of (out-ArgMatches matches).subcommand
 
+  -- where none of the six was met, the words name none of them
   pub names_no_other : (subcommand_name_of matches ≡ Some (codes "threads") → false ≡ true) → (subcommand_name_of matches ≡ Some (codes "bench") → false ≡ true)
       → (subcommand_name_of matches ≡ Some (codes "show") → false ≡ true) → (subcommand_name_of matches ≡ Some (codes "init") → false ≡ true)
       → (subcommand_name_of matches ≡ Some (codes "serve") → false ≡ true) → (subcommand_name_of matches ≡ Some (codes "check") → false ≡ true) → NamesNoOther words
   names_no_other no_threads no_bench no_show no_init no_serve no_check =
       record {
-        threads = λ is. none (no_threads (sym named ∙ is));
-        bench = λ is. none (no_bench (sym named ∙ is));
-        show = λ is. none (no_show (sym named ∙ is));
-        init = λ is. none (no_init (sym named ∙ is));
-        serve = λ is. none (no_serve (sym named ∙ is));
-        check = λ is. none (no_check (sym named ∙ is));
+        threads = λ is. false≢true (no_threads (sym named ∙ is));
+        bench = λ is. false≢true (no_bench (sym named ∙ is));
+        show = λ is. false≢true (no_show (sym named ∙ is));
+        init = λ is. false≢true (no_init (sym named ∙ is));
+        serve = λ is. false≢true (no_serve (sym named ∙ is));
+        check = λ is. false≢true (no_check (sym named ∙ is));
       }
 
   -- what was read of its rows is what the words give it

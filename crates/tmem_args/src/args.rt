@@ -311,7 +311,7 @@ fn program<'a>(alloc: Global) -> Result<Command<'a>, AllocError>
         .bin_name("tmem")
 }
 
-// A command with one more subcommand, where both were made.
+// A command with one more subcommand, where both were made. (One exit for both, as each `?` takes the prover seconds.)
 fn with_subcommand<'a>(
     command: Result<Command<'a>, AllocError>,
     subcommand: Result<Command<'a>, AllocError>,
@@ -347,7 +347,7 @@ fn subcommand_with<'a>(
     with_arg(Command::new(alloc, name).about(about).arg(first), second)
 }
 
-// A command with one more argument, where it was made.
+// A command with one more argument, where it was made. (Without a `?`, for the same reason.)
 fn with_arg<'a>(
     command: Result<Command<'a>, AllocError>,
     arg: Arg<'a>,
@@ -487,7 +487,7 @@ fn checked_arg<'a>(alloc: Global) -> Arg<'a>
     ensures rule { rule_of result ≡ script_to_check }
     ensures local { result.global ≡ false }
 {
-    wanted_arg(alloc, "script", "SCRIPT", "The file with the script")
+    required_arg(alloc, "script", "SCRIPT", "The file with the script")
 }
 
 // `--explain`.
@@ -511,7 +511,7 @@ fn file_arg<'a>(alloc: Global) -> Arg<'a>
     ensures rule { rule_of result ≡ file_word }
     ensures local { result.global ≡ false }
 {
-    wanted_arg(alloc, "file", "FILE", "The file with the shape")
+    required_arg(alloc, "file", "FILE", "The file with the shape")
 }
 
 // `--shape` with a path.
@@ -529,7 +529,7 @@ fn store_arg<'a>(alloc: Global) -> Arg<'a>
     ensures local { result.global ≡ false }
 {
     let help = "The file of the store, or the block device";
-    wanted_arg(alloc, "store", "STORE", help)
+    required_arg(alloc, "store", "STORE", help)
 }
 
 // A flag of this name.
@@ -560,7 +560,7 @@ fn workers_arg<'a>(alloc: Global) -> Arg<'a>
 {
     let workers = value_parser!(u16).range(1..=16);
     let help = "How many threads count, from 1 to 16";
-    wanted_arg(alloc, "workers", "WORKERS", help).value_parser(workers)
+    required_arg(alloc, "workers", "WORKERS", help).value_parser(workers)
 }
 
 // How often each of them adds 1.
@@ -570,7 +570,7 @@ fn turns_arg<'a>(alloc: Global) -> Arg<'a>
 {
     let turns = value_parser!(u16).range(1..=1000);
     let help = "How often each of them adds 1, from 1 to 1000";
-    wanted_arg(alloc, "turns", "TURNS", help).value_parser(turns)
+    required_arg(alloc, "turns", "TURNS", help).value_parser(turns)
 }
 
 // `--millis` with how long a job goes on.
@@ -593,8 +593,8 @@ fn job_arg<'a>(alloc: Global) -> Arg<'a>
     option_arg(alloc, "job", "N", help).value_parser(lines)
 }
 
-// A word that has to be given.
-fn wanted_arg<'a>(alloc: Global, id: &'a str, value_name: &'a str, help: &'a str) -> Arg<'a>
+// A required argument.
+fn required_arg<'a>(alloc: Global, id: &'a str, value_name: &'a str, help: &'a str) -> Arg<'a>
     ensures rule { rule_of result ≡ record (new_rule id.entry.now) { value_names = 1; required = true } }
     ensures local { result.global ≡ false }
 {
@@ -604,7 +604,7 @@ fn wanted_arg<'a>(alloc: Global, id: &'a str, value_name: &'a str, help: &'a str
         .help(help)
 }
 
-// A word behind an option of this name.
+// An option with a value.
 fn option_arg<'a>(alloc: Global, id: &'a str, value_name: &'a str, help: &'a str) -> Arg<'a>
     ensures rule { rule_of result ≡ record (new_rule id.entry.now) { long = Some id.entry.now; value_names = 1 } }
     ensures local { result.global ≡ false }

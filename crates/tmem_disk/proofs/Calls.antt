@@ -1,4 +1,4 @@
--- A call of a device that failed, and one that did not, from the parts that they change.
+-- What is known of a call of a device that failed, and of one that did not, from what each changes.
 use Rattle.std.proofs.Common.{◌≡◌, refl, arith}
 use Rattle.std.specs.Prelude.{Some, Ok, Err}
 use Rattle.std.proofs.lemmas.Bool.{false≢true}

@@ -1,4 +1,4 @@
--- What a sync leaves that looks only at a range: it is enough that nothing outside the range is marked.
+-- What is left where nothing is marked, and by a sync that looks only at a range: it is enough that nothing outside the range is marked.
 use Rattle.std.proofs.Common.{◌≡◌, ⊎_elim, ℕ, zero, suc, ◌+◌, ◌-◌, ◌<◌, ◌≤◌, Bool, true, false, List, length, drop, get_or, replicate, refl, sym, ◌∙◌, ap, arith, length-drop}
 use Rattle.std.specs.Prelude.{slice_range}
 use Rattle.std.proofs.lemmas.List.{length-take-le, get_or-take, get_or-drop, get_or-replicate, get_or_default, length-replicate, same_lists}

@@ -94,10 +94,11 @@ module _ (marks new : List Bool) (at n : ℕ) (fits : at + n ≤ length marks) (
   pub unmarked_above : (i : ℕ) → at + n ≤ i → get_or marks i false ≡ false → get_or new i false ≡ false
   unmarked_above i above none = ap (λ (l : List Bool). get_or l i false) is ∙ get_or-above marks at (replicate n true) inside i false (omega (arith, trues_long, above)) ∙ none
 
--- bytes are the same where their parts are
+-- bytes from their three parts
 abbrev bytes_of : List ℕ → List ℕ → List Bool → Bytes
 bytes_of present synced marks = record { present = present; synced = synced; marks = marks }
 
+-- bytes are the same where their parts are
 pub same_bytes : (present synced synced' : List ℕ) (marks marks' : List Bool) → synced ≡ synced' → marks ≡ marks' → bytes_of present synced marks ≡ bytes_of present synced' marks'
 same_bytes present synced synced' marks marks' first second =
     ap (λ (l : List ℕ). bytes_of present l marks) first ∙ ap (λ (l : List Bool). bytes_of present synced' l) second
