@@ -151,6 +151,7 @@ static SECOND_CASES: &[Case<'static>] = &[
     },
     Case {
         name: "the fault that another desk met is told, and not that the store is closed behind it",
+        // this is the first sync of the other desk's flush
         fails: Some(0),
         pieces: &[
             "{\"id\":1,\"ask\":\"look\"}\n{\"id\":2,\"do\":{\"write\":[2,0]}}\n{\"id\":3,\"ask\":\"checkpoint\"}\n",

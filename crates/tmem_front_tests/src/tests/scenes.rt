@@ -243,8 +243,7 @@ impl<D: Disk + Drop, N: StoreNaming, T: Invariants + Drop, S: StoredSteps + Drop
         self.play_from(stage, &mut Hands::new(), part)
     }
 
-    // Takes a pass, which the crowd does not, and plays a part once the others have theirs too: what the first of them does at once could
-    // leave none.
+    // Takes a pass (the crowd takes none), and plays a part once all others have theirs: else the first thread could take the last pass.
     fn play_from<R: Clock + Wait>(
         &self,
         stage: &Stage<R>,
