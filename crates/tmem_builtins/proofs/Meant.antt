@@ -18,6 +18,6 @@ sum_meant name footprint post named over gives = rw (named, over) (record { over
 pub ordered_meant : (name footprint : List ℕ) (post : Post) → name ≡ codes "ordered" → footprint ≡ 2 ∷ 3 ∷ [] → Gives post 2 are_ordered → IsMeant builtin_tests name footprint post
 ordered_meant name footprint post named over gives = rw (named, over) (record { over = refl; answers = gives })
 
--- some of three that are meant so
+-- what holds of each of three holds of each that a test keeps
 pub some_meant : {E : Type 0} (P : E → Type 0) (p : E → Bool) (es : List E) (x y z : E) → es ≡ filter p (x ∷ y ∷ z ∷ []) → P x → P y → P z → All P es
 some_meant P p es x y z is first second third = rw is (All-filter p P (x ∷ y ∷ z ∷ []) (All-cons P x (y ∷ z ∷ []) first (All-cons P y (z ∷ []) second (All-cons P z [] third (All-nil P)))))

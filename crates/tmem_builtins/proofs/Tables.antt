@@ -58,8 +58,7 @@ one_variable a = record { not_empty = lit≤ tt; short = lit≤ tt; distinct = o
 pub two_variables : (a b : ℕ) → a ≢ b → IsFootprint (a ∷ b ∷ [])
 two_variables a b differ = record { not_empty = lit≤ tt; short = lit≤ tt; distinct = two a b differ }
 
--- which footprints are within a number of variables
-
+-- which footprints are within a number of variables: those of one and of two
 pub within_one : (vars a : ℕ) (footprint : List ℕ) → footprint ≡ a ∷ [] → a < vars → is_footprint_within vars footprint ≡ true
 within_one vars a footprint is enough = ap (is_footprint_within vars) is ∙ ap (λ b. b && true) (lt-ltb a vars enough)
 

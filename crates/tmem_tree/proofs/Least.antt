@@ -1,4 +1,4 @@
--- The limits below a number, each shown to hold, and what a budget that suffices says of a count.
+-- Which limits hold whose cause has a lesser number, for the least cause that is broken.
 use Rattle.std.proofs.Common.{◌≡◌, ℕ, ◌+◌, ◌<◌, true, List, Option, Some, None, IfSome, arith}
 use Rattle.std.specs.Prelude.{is_some}
 use Rattle.std.proofs.lemmas.Bool.{false≢true}
@@ -26,9 +26,11 @@ cause_number-less UnknownName = omega arith
 cause_number-less TooManyRetires = omega arith
 
 module _ (arities : List ℕ) (vars : ℕ) (names : List (List ℕ)) (tx : Tx) (n : ℕ) where
+  -- the limit of a cause holds, if its number is lesser
   abbrev Holds : Cause → Type 0
   Holds cause = cause_number cause < n → Breaks arities vars names tx cause → ⊥
 
+  -- so do all, where each of them does
   pub all_hold : Holds TooDeep → Holds TooManyNodes → Holds TooManyWrites → Holds TooManyChecks → Holds BadRegister → Holds BadVariable → Holds BadStep → Holds BadArguments → Holds UnknownName → Holds TooManyRetires → (lesser : Cause) → Holds lesser
   all_hold depth nodes writes checks registers variables steps arguments known retires TooDeep = depth
   all_hold depth nodes writes checks registers variables steps arguments known retires TooManyNodes = nodes

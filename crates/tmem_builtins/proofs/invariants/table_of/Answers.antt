@@ -2,7 +2,7 @@ use Rattle.std.proofs.Common.{ℕ, ℤ, Bool, List, [], ◌∷◌, map, codes, r
 use Rattle.std.proofs.lemmas.Result.{IfOk-weaker}
 use Rattle.tmem_fault.specs.declared.fault.Fault.TheVariants.{Memory}
 use Rattle.tmem_invariants.specs.Answers.{IsMeant}
-use Rattle.tmem_builtins.specs.Builtins.{builtin_tests, invariants}
+use Rattle.tmem_builtins.specs.Builtins.{builtin_tests}
 use Rattle.tmem_builtins.specs.Invariants.{is_not_negative, add_to_hundred, are_ordered, is_footprint_within}
 use Rattle.tmem_builtins.proofs.Meant.{nonneg_meant, sum_meant, ordered_meant, some_meant}
 use Rattle.tmem_builtins.proofs.Tables.{one_error, one_variable, two_variables, filtered_images, same_triple}
