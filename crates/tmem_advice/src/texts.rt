@@ -10,7 +10,7 @@ pub(crate) const NO_ANSWERS: &str =
     "standard output took no more; look whether it is closed, or its reader has ended, and for room; requests without an answer may be done: see what the store has before any is repeated";
 
 pub(crate) const UNSURE: &str =
-    "a write or sync failed; repeat nothing yet: open the store again, after an error of the disk (dmesg) once the machine was started anew; if writes fail again, look for room, also below the device (df, lvs), or end each program that uses the store, copy it to another disk, and use that copy alone from then on";
+    "a write or sync failed; repeat nothing yet: open the store again, after an error of the disk (dmesg) once the machine was started anew; if writes fail again, look for room, also below the device (df, lvs), or end each program that uses the store, copy it to a new file on another disk, and sync that; only if it was copied to its end, use that copy alone from then on";
 
 pub(crate) const NOT_ANSWERED: &str =
     "if it had told opened, each request without an answer, or answered by this fault, may be done or not: open the store again, and see what it has before any is repeated";

@@ -11,10 +11,10 @@ use Rattle.tmem_explain.specs.declared.numbers.NumbersHelp.TheVariants as number
 -- what went wrong, and what to do
 abbrev pub fault_help : Fault → List ℕ
 fault_help fault.Memory = codes "memory did not suffice, or no thread could be started; give the program more (ulimit -v, ulimit -u), or ask for less"
-fault_help fault.Device = codes "a call on the file failed, or a sync of it failed before, and this process makes none any more; look at its rights, at room (df), at limits (ulimit -f, ulimit -n), whether the device is read-only, and into the system's log (dmesg); then open the store again, and see what it has before anything is repeated; if the store fails again, end each program that uses it, copy it to another disk, and use that copy alone from then on"
+fault_help fault.Device = codes "a call on the file failed, or a sync of it failed before, and this process makes none any more; look at its rights, at room (df), at limits (ulimit -f, ulimit -n), whether it is read-only, and into the system's log (dmesg); then open the store again, and see what it has before anything is repeated; if the store fails again, end each program that uses it, copy it to a new file on another disk, and sync that; only if it was copied to its end, use that copy alone from then on"
 fault_help fault.Closed = codes "an earlier failure has closed the store: a call on its file failed, or it could not be opened again; mend that, open the store again, and see what it has before anything is repeated"
 fault_help fault.Unknown =
-    codes "a write or sync failed; of a flush, all of the batch is durable, or none of it; a checkpoint puts no transaction in doubt; repeat nothing yet: open the store again, after an error of the disk (dmesg) once the machine was started anew, and see how many transactions there are; if writes fail again, look for room, also below the device (df, lvs), or end each program that uses the store, copy it to another disk, and use that copy alone from then on"
+    codes "a write or sync failed; of a flush, all of the batch is durable, or none of it; a checkpoint puts no transaction in doubt; repeat nothing yet: open the store again, after an error of the disk (dmesg) once the machine was started anew, and see how many transactions there are; if writes fail again, look for room, also below the device (df, lvs), or end each program that uses the store, copy it to a new file on another disk, and sync that; only if it was copied to its end, use that copy alone from then on"
 fault_help fault.Full = codes "256 transactions wait to be durable; flush, and settle again"
 fault_help fault.LogFull = codes "every slot of the log is used; make a checkpoint, and flush again"
 fault_help fault.Conflict = codes "a value that the transaction read has changed; begin it again"
