@@ -116,8 +116,12 @@ fn those_below(
     pair: Invariant,
     order: Invariant,
 ) -> Result<Vec<Invariant>, AllocError>
-    requires names { (floor.name ≡ codes "nonneg") × (pair.name ≡ codes "sum") × (order.name ≡ codes "ordered") }
-    requires footprints { (floor.footprint.items ≡ 0 ∷ []) × (pair.footprint.items ≡ 0 ∷ 1 ∷ []) × (order.footprint.items ≡ 2 ∷ 3 ∷ []) }
+    requires floor_name { floor.name ≡ codes "nonneg" }
+    requires pair_name { pair.name ≡ codes "sum" }
+    requires order_name { order.name ≡ codes "ordered" }
+    requires floor_over { floor.footprint.items ≡ 0 ∷ [] }
+    requires pair_over { pair.footprint.items ≡ 0 ∷ 1 ∷ [] }
+    requires order_over { order.footprint.items ≡ 2 ∷ 3 ∷ [] }
     ensures entries { IfOk result (λ entries. entries.items ≡ filter (λ entry. is_footprint_within vars entry.footprint.items) (floor ∷ pair ∷ order ∷ [])) }
     ensures fit { IfOk result (λ entries. AreTableNames (map (λ entry. entry.name) entries.items) × All (λ entry. AreBelow vars entry.footprint.items) entries.items) }
 {

@@ -17,11 +17,15 @@ entry-requires-2 g c = (omega arith, (two_variables _ _ (λ same. cc), (c.requir
 pub entry-requires-3 : goal.entry-requires-3
 entry-requires-3 g c = (omega arith, (two_variables _ _ (λ same. cc), (c.requires.ordered_callable, ∣ (are_ordered, c.requires.ordered_stated) ∣₁)))
 
-pub those_below-requires-clause-names : goal.those_below-requires-clause-names
-those_below-requires-clause-names g c = (c.in_ok-floor.ensures.name ∙ c.nonneg_name.ensures, c.in_ok-pair.ensures.name ∙ c.sum_name.ensures, c.in_ok-order.ensures.name ∙ c.ordered_name.ensures)
-
-pub those_below-requires-clause-footprints : goal.those_below-requires-clause-footprints
-those_below-requires-clause-footprints g c = (c.in_ok-floor.ensures.footprint, c.in_ok-pair.ensures.footprint, c.in_ok-order.ensures.footprint)
+pub those_below-requires : goal.those_below-requires
+those_below-requires g c = record {
+  floor_name = c.in_ok-floor.ensures.name ∙ c.nonneg_name.ensures;
+  pair_name = c.in_ok-pair.ensures.name ∙ c.sum_name.ensures;
+  order_name = c.in_ok-order.ensures.name ∙ c.ordered_name.ensures;
+  floor_over = c.in_ok-floor.ensures.footprint;
+  pair_over = c.in_ok-pair.ensures.footprint;
+  order_over = c.in_ok-order.ensures.footprint;
+}
 
 pub returns-clause-vars : goal.returns-clause-vars
 returns-clause-vars g c = c.of.ensures.vars
