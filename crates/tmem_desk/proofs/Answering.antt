@@ -6,8 +6,8 @@ use Rattle.tmem_effect.specs.Prefix.{IsPrefix}
 use Rattle.tmem_spine.specs.declared.view.Entry.{Entry}
 use Rattle.tmem_spine.specs.History.{count, longer}
 use Rattle.tmem_spine.specs.Views.{PassRoleView}
-use Rattle.tmem_requests.specs.declared.answer.Answer.{Answer}
-use Rattle.tmem_requests.specs.declared.answer.Answer.TheVariants as answer
+use Rattle.tmem_answers.specs.declared.answer.Answer.{Answer}
+use Rattle.tmem_answers.specs.declared.answer.Answer.TheVariants as answer
 use Rattle.tmem_requests.specs.declared.request.RequestBody.{RequestBody}
 use Rattle.tmem_requests.specs.declared.request.RequestBody.TheVariants as ask
 use Rattle.tmem_desk.specs.Asking.{Store, Tries, AnswersAsk}

@@ -6,8 +6,8 @@ use Rattle.std.proofs.lemmas.List.{append-nil}
 use Rattle.std.proofs.lemmas.List.Elements.{All-nil, All-map, All-weaker}
 use Rattle.tmem_fault.specs.declared.fault.Fault.{Fault}
 use Rattle.tmem_fault.specs.declared.fault.Fault.TheVariants.{Memory}
-use Rattle.tmem_requests.specs.declared.answer.Answer.{Answer}
-use Rattle.tmem_requests.specs.declared.answer.Answer.TheVariants as answer
+use Rattle.tmem_answers.specs.declared.answer.Answer.{Answer}
+use Rattle.tmem_answers.specs.declared.answer.Answer.TheVariants as answer
 use Rattle.tmem_desk.specs.Failing.{EndsBy}
 use Rattle.tmem_desk.specs.Told.{TellsOnly, TellsWithin, last_answer, rests_within, told_last}
 use Rattle.tmem_desk.specs.declared.failure.DeskFailure.{DeskFailure}

@@ -18,8 +18,8 @@ use Rattle.tmem_tree.specs.declared.settled.Settled.TheVariants.{Retry}
 use Rattle.tmem_tentative.specs.Right.{IsRight}
 use Rattle.tmem_tentative.specs.declared.attempt.Attempt.{Attempt}
 use Rattle.tmem_seats.specs.Settling.{SettlesPass, KnowsMore}
-use Rattle.tmem_requests.specs.declared.answer.Answer.{Answer}
-use Rattle.tmem_requests.specs.declared.answer.Answer.TheVariants as answer
+use Rattle.tmem_answers.specs.declared.answer.Answer.{Answer}
+use Rattle.tmem_answers.specs.declared.answer.Answer.TheVariants as answer
 use Rattle.tmem_requests.specs.declared.request.RequestBody.{RequestBody}
 use Rattle.tmem_requests.specs.declared.request.RequestBody.TheVariants as ask
 use Rattle.tmem_copies.specs.Leading.{first_puts}

@@ -26,8 +26,8 @@ use Rattle.tmem_core.specs.Verdict.{committed, first_broken}
 use Rattle.tmem_core.specs.SettleAnswer.{is_stale, sound_answer, unless_refused, ending_answer, settle_answer, committed_by}
 use Rattle.tmem_seats.specs.Histories.{state_after_history, marked}
 use Rattle.tmem_seats.specs.Settling.{SettlesPass, KnowsMore, SeesMore, IsNumberedWithin}
-use Rattle.tmem_requests.specs.declared.answer.Answer.{Answer}
-use Rattle.tmem_requests.specs.declared.answer.Answer.TheVariants as answer
+use Rattle.tmem_answers.specs.declared.answer.Answer.{Answer}
+use Rattle.tmem_answers.specs.declared.answer.Answer.TheVariants as answer
 use Rattle.tmem_requests.specs.declared.request.RequestBody.{RequestBody}
 use Rattle.tmem_requests.specs.declared.request.RequestBody.TheVariants as ask
 use Rattle.tmem_desk.specs.Asking.{Store, SettlesTx, IsNoPlan, IsPlanOf, TellsEnding, TellsResult, EndsTold, SeesValues, Tries, AnswersAsk}

@@ -1,7 +1,7 @@
 -- What is told more, and then more again.
 use Rattle.std.proofs.Common.{◌≡◌, ℤ, List, [], ◌∷◌, ◌++◌, map, append_assoc, refl, ap, ap₂, sym, ◌∙◌}
 use Rattle.tmem_fault.specs.declared.fault.Fault.TheVariants as fault
-use Rattle.tmem_requests.specs.declared.answer.Answer.TheVariants as answer
+use Rattle.tmem_answers.specs.declared.answer.Answer.TheVariants as answer
 use Rattle.tmem_requests.specs.declared.request.RequestBody.{RequestBody}
 use Rattle.tmem_desk.specs.Counts.{counts_with, counts_after}
 use Rattle.tmem_desk.specs.Desks.{DeskView}

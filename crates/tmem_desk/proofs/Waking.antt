@@ -2,7 +2,7 @@
 use Rattle.std.proofs.Common.{◌≡◌, inl, ℤ, List, [], ◌∷◌, ◌++◌, length, map, Some, None, ap, ◌∙◌, arith}
 use Rattle.std.proofs.lemmas.List.{map_push}
 use Rattle.tmem_spine.specs.Views.{PassRoleView}
-use Rattle.tmem_requests.specs.declared.answer.Answer.{Answer}
+use Rattle.tmem_answers.specs.declared.answer.Answer.{Answer}
 use Rattle.tmem_requests.specs.declared.request.RequestBody.{RequestBody}
 use Rattle.tmem_desk.specs.Asking.{Store, Tries}
 use Rattle.tmem_desk.specs.Desks.{DeskView}

@@ -18,8 +18,8 @@ use Rattle.tmem_tree.specs.declared.settled.Settled.{Settled}
 use Rattle.tmem_tree.specs.declared.settled.Settled.TheVariants.{Retry, Refused}
 use Rattle.tmem_tree.specs.declared.tx.Tx.{Tx}
 use Rattle.tmem_requests.specs.Attempts.{IsAttemptOf}
-use Rattle.tmem_requests.specs.declared.answer.Answer.{Answer}
-use Rattle.tmem_requests.specs.declared.answer.Answer.TheVariants as answer
+use Rattle.tmem_answers.specs.declared.answer.Answer.{Answer}
+use Rattle.tmem_answers.specs.declared.answer.Answer.TheVariants as answer
 use Rattle.tmem_requests.specs.declared.proposal.Proposal.{Proposal}
 use Rattle.tmem_requests.specs.declared.request.RequestBody.{RequestBody}
 use Rattle.tmem_requests.specs.declared.request.RequestBody.TheVariants as ask

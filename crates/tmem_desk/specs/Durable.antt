@@ -1,8 +1,8 @@
 -- That what is told is durable.
 use Rattle.std.specs.Prelude.{ℕ, ◌≤◌, Ok}
 use Rattle.tmem_seats.specs.Settling.{IsNumberedWithin}
-use Rattle.tmem_requests.specs.declared.answer.Answer.{Answer}
-use Rattle.tmem_requests.specs.declared.answer.Answer.TheVariants as answer
+use Rattle.tmem_answers.specs.declared.answer.Answer.{Answer}
+use Rattle.tmem_answers.specs.declared.answer.Answer.TheVariants as answer
 use Rattle.tmem_desk.specs.declared.told.Told.{Told}
 use Rattle.tmem_desk.specs.declared.told.Told.TheVariants as told
 

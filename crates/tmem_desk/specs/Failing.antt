@@ -7,7 +7,7 @@ use Rattle.tmem_lines.specs.Views.{LinesView}
 use Rattle.tmem_seats.specs.Settling.{SeesMore}
 use Rattle.tmem_spine.specs.History.{count}
 use Rattle.tmem_spine.specs.Views.{PassRoleView}
-use Rattle.tmem_requests.specs.declared.answer.Answer.TheVariants as answer
+use Rattle.tmem_answers.specs.declared.answer.Answer.TheVariants as answer
 use Rattle.tmem_requests.specs.declared.request.RequestBody.{RequestBody}
 use Rattle.tmem_desk.specs.Asking.{Store}
 use Rattle.tmem_desk.specs.Desks.{DeskView}

@@ -10,9 +10,9 @@ use Rattle.tmem_tree.specs.declared.tx.Tx.{Tx}
 use Rattle.tmem_requests.specs.Fits.{FitsStore}
 use Rattle.tmem_requests.specs.Reasons.{IsReason}
 use Rattle.tmem_requests.specs.Requests.{IsRequestText}
-use Rattle.tmem_requests.specs.declared.answer.Answer.{Answer}
-use Rattle.tmem_requests.specs.declared.answer.Answer.TheVariants as answer
-use Rattle.tmem_requests.specs.declared.answer.Stats.{Stats}
+use Rattle.tmem_answers.specs.declared.answer.Answer.{Answer}
+use Rattle.tmem_answers.specs.declared.answer.Answer.TheVariants as answer
+use Rattle.tmem_answers.specs.declared.answer.Stats.{Stats}
 use Rattle.tmem_requests.specs.declared.refusal.NoRequest.{NoRequest}
 use Rattle.tmem_requests.specs.declared.request.RequestBody.{RequestBody}
 use Rattle.tmem_requests.specs.declared.request.RequestBody.TheVariants as ask

@@ -2,9 +2,9 @@
 ghost use Rattle.std.specs.Prelude.{◌≡◌};
 ghost use Rattle.tmem_desk.specs.Counts.{no_counts, counts_with, one_committed, one_refused, one_conflict};
 
+use tmem_answers::Answer;
 use tmem_core::Settled;
 use tmem_fault::Fault;
-use tmem_requests::Answer;
 
 /// How many answers told of a commit, of a refusal by an invariant, and of a conflict. Each is a number of 64 bits, which begins anew.
 #[derive(Clone, Copy)]

@@ -17,11 +17,11 @@ use crate::served::ServedStore;
 use crate::told::Told;
 use std::alloc::Global;
 use std::collections::VecDeque;
+use tmem_answers::{Answer, AnswerLine};
 use tmem_fault::Fault;
 use tmem_lines::MAX_LINE_BYTES;
 use tmem_requests::{
-    Answer, AnswerLine, NoRequest, NoRequestLine, ReadBuffer, RequestBody, RequestError,
-    RequestFlaw, RequestPlace,
+    NoRequest, NoRequestLine, ReadBuffer, RequestBody, RequestError, RequestFlaw, RequestPlace,
 };
 use tmem_seats::Pass;
 use tmem_tree::Tx;

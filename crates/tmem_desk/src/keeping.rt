@@ -13,9 +13,9 @@ use crate::held::WaitCondition;
 use crate::naming::ServedNaming;
 use crate::ready::Ready;
 use crate::served::ServedStore;
+use tmem_answers::{Answer, Stats};
 use tmem_copies::{begins_with_puts, copy_of};
 use tmem_fault::{Fault, Name};
-use tmem_requests::{Answer, Stats};
 use tmem_tree::Tx;
 
 /// The most transactions that are kept.

@@ -22,10 +22,10 @@ use std::collections::VecDeque;
 use std::io::Write;
 use std::mem;
 use std::sync::Wait;
+use tmem_answers::{Answer, AnswerLine};
 use tmem_core::Settled;
 use tmem_fault::Fault;
 use tmem_lines::{Cut, Lines};
-use tmem_requests::{Answer, AnswerLine};
 
 impl<N: ServedNaming> Desk<N> {
     /// Takes a piece of input, and answers all its lines and those that need not wait any more, by one write, once all that is told is

@@ -9,8 +9,9 @@ use crate::desk::Desk;
 use crate::failure::DeskFailure;
 use crate::naming::ServedNaming;
 use std::io::{self, ErrorKind, Write};
+use tmem_answers::AnswerLine;
 use tmem_fault::Fault;
-use tmem_requests::{AnswerLine, NoRequestLine};
+use tmem_requests::NoRequestLine;
 
 /// What a client is told, by a line.
 #[derive(Drop)]

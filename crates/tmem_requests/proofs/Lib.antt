@@ -8,9 +8,7 @@ mod OneReading
 mod Puts
 mod Reading
 mod Reasoned
-mod Registers
 mod Retired
 mod Same
 mod Spelled
-mod Texts
 mod Wrongs

@@ -1,4 +1,3 @@
-pub mod Answers
 pub mod Attempts
 pub mod Errors
 pub mod Fits

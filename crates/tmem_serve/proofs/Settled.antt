@@ -9,7 +9,7 @@ use Rattle.tmem_spine.specs.Views.{PassRoleView}
 use Rattle.tmem_tentative.specs.declared.attempt.Attempt.{Attempt}
 use Rattle.tmem_tree.specs.declared.settled.Settled.{Settled}
 use Rattle.tmem_tree.specs.declared.tx.Tx.{Tx}
-use Rattle.tmem_requests.specs.declared.answer.Answer.{Answer}
+use Rattle.tmem_answers.specs.declared.answer.Answer.{Answer}
 use Rattle.tmem_requests.specs.declared.proposal.Proposal.{Proposal}
 use Rattle.tmem_desk.specs.Asking.{Store, SettlesProposal, SettlesTx}
 

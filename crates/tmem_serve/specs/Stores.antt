@@ -13,7 +13,7 @@ use Rattle.tmem_journal.specs.Contents.{Position, ContentRepresents}
 use Rattle.tmem_opening.specs.Opening.{FindsState, OpeningRefused}
 use Rattle.tmem_lines.specs.Lines.{line}
 use Rattle.tmem_spine.specs.Views.{new_pass}
-use Rattle.tmem_requests.specs.Answers.{opened_line}
+use Rattle.tmem_answers.specs.Answers.{opened_line}
 use Rattle.tmem_desk.specs.Asking.{Store}
 use Rattle.tmem_desk.specs.Held.{empty_desk}
 use Rattle.tmem_desk.specs.declared.failure.DeskFailure.{DeskFailure}

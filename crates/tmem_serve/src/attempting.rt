@@ -9,13 +9,13 @@ ghost use Rattle.tmem_desk.specs.Asking.{Tries, store};
 use crate::looking::vars_of;
 use crate::service::Service;
 use std::sync::Wait;
+use tmem_answers::Answer;
 use tmem_core::Settled;
 use tmem_desk::{Ready, ServedNaming, ServedStore};
 use tmem_disk::Disk;
 use tmem_fault::Fault;
 use tmem_front::Pass;
 use tmem_invariants::Invariants;
-use tmem_requests::Answer;
 use tmem_tree::StoredSteps;
 
 impl<R: Wait, D: Disk + Drop, N: ServedNaming, T: Invariants + Drop, S: StoredSteps + Drop> Service<

@@ -8,13 +8,13 @@ ghost use Rattle.tmem_desk.specs.Asking.{SettlesProposal, TellsEnding, TellsEnd,
 
 use crate::service::Service;
 use std::sync::Wait;
+use tmem_answers::Answer;
 use tmem_core::Settled;
 use tmem_desk::ServedNaming;
 use tmem_disk::Disk;
 use tmem_fault::Fault;
 use tmem_front::Pass;
 use tmem_invariants::Invariants;
-use tmem_requests::Answer;
 use tmem_tentative::Attempt;
 use tmem_tree::StoredSteps;
 

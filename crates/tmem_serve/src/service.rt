@@ -6,12 +6,13 @@ use crate::settling::told_image;
 use std::alloc::Global;
 use std::marker::PhantomData;
 use std::sync::Wait;
+use tmem_answers::Answer;
 use tmem_desk::{Ready, ServedNaming, ServedStore, WaitCondition};
 use tmem_disk::Disk;
 use tmem_fault::{Cause, Fault, Name};
 use tmem_front::{Front, LogCounts, Moment, Pass};
 use tmem_invariants::Invariants;
-use tmem_requests::{Answer, Proposal, ReadBuffer, Request, RequestError, proposed_attempt};
+use tmem_requests::{Proposal, ReadBuffer, Request, RequestError, proposed_attempt};
 use tmem_tree::{StoredSteps, Tx};
 
 /// The store that a desk serves: its front, lent for as long as it does, and the numbers and names that requests are held to.

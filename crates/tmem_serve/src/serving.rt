@@ -15,13 +15,13 @@ use std::alloc::Global;
 use std::io::{ErrorKind, Read, Write};
 use std::marker::Brand;
 use std::sync::Wait;
+use tmem_answers::OpenedLine;
 use tmem_desk::{Desk, DeskFailure, ServedNaming, ServedStore};
 use tmem_disk::Disk;
 use tmem_fault::{Fault, Name};
 use tmem_front::{Front, OpenedFront};
 use tmem_invariants::Invariants;
 use tmem_lines::Lines;
-use tmem_requests::OpenedLine;
 use tmem_tree::StoredSteps;
 
 // So many bytes are read at once at most.

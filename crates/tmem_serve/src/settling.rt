@@ -1,18 +1,18 @@
 // How transactions are settled for a desk. Nobody else uses the store while it is served, so a conflict ends.
 ghost use Rattle.std.specs.Prelude.{◌≡◌, ◌≢◌, Ok, Err, OnOk, IfOk, IfErr};
-ghost use Rattle.tmem_requests.specs.declared.answer.Answer.TheVariants.{Checkpointed, Fault as FaultOf};
+ghost use Rattle.tmem_answers.specs.declared.answer.Answer.TheVariants.{Checkpointed, Fault as FaultOf};
 ghost use Rattle.tmem_seats.specs.Settling.{KnowsMore};
 ghost use Rattle.tmem_desk.specs.Asking.{SettlesTx, TellsEnding, store};
 
 use crate::service::Service;
 use std::sync::Wait;
+use tmem_answers::Answer;
 use tmem_core::Settled;
 use tmem_desk::{Ready, ServedNaming};
 use tmem_disk::Disk;
 use tmem_fault::Fault;
 use tmem_front::Pass;
 use tmem_invariants::Invariants;
-use tmem_requests::Answer;
 use tmem_tree::StoredSteps;
 
 impl<R: Wait, D: Disk + Drop, N: ServedNaming, T: Invariants + Drop, S: StoredSteps + Drop> Service<

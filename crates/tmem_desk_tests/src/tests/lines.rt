@@ -3,7 +3,7 @@
 use std::alloc::{AllocError, Global};
 use std::test::Fail;
 use tmem_fault::{Fault, Name};
-use tmem_requests::{Answer, AnswerLine};
+use tmem_answers::{Answer, AnswerLine};
 use tmem_tree::Settled;
 
 // The line of an answer to the request -3.

@@ -1,7 +1,7 @@
 use Rattle.std.proofs.Common.{◌++◌, ◌∷◌, [], ℤ, FitsSigned, w64, ap, sym, append_assoc, ◌∙◌, rules}
 use Rattle.std.proofs.lemmas.Int.{to_z-of_z}
 use Rattle.tmem_fault.specs.declared.fault.Fault.TheVariants as fault
-use Rattle.tmem_requests.specs.declared.answer.Answer.TheVariants as answer
+use Rattle.tmem_answers.specs.declared.answer.Answer.TheVariants as answer
 use Rattle.tmem_desk.specs.Held.{asked, desk_view}
 use Rattle.tmem_desk.specs.Serving.{tells}
 use Rattle.tmem_desk.specs.Told.{answer_told}

@@ -1,7 +1,7 @@
 use Rattle.std.proofs.Common.{ℕ, ℤ, List, w64, to_z, of_z, refl, subst, inr}
 use Rattle.std.proofs.lemmas.Int.{to_z-of_z}
 use Rattle.std.proofs.lemmas.Result.{on_ok_weaker}
-use Rattle.tmem_requests.specs.declared.answer.Answer.TheVariants as answer
+use Rattle.tmem_answers.specs.declared.answer.Answer.TheVariants as answer
 use Rattle.tmem_requests.specs.declared.request.RequestBody.TheVariants as ask
 use Rattle.tmem_desk.specs.Asking.{SeesValues, store}
 use Rattle.tmem_desk.specs.Held.{desk_view}

@@ -1,7 +1,7 @@
 use Rattle.std.proofs.Common.{◌≡◌, Option, FitsSigned, w64, refl, ap, sym, subst, arith, length, rules, inl, inr}
 use Rattle.std.proofs.lemmas.Int.{to_z-of_z}
 use Rattle.std.proofs.lemmas.Result.{on_ok_weaker}
-use Rattle.tmem_requests.specs.declared.answer.Answer.{Answer}
+use Rattle.tmem_answers.specs.declared.answer.Answer.{Answer}
 use Rattle.tmem_desk.specs.Asking.{Tries, store}
 use Rattle.tmem_desk.specs.Held.{asked, asking, desk_view}
 use Rattle.tmem_desk.proofs.Waking.{none_first, answers_first, waits_again}

@@ -1,0 +1,3 @@
+pub mod Causes
+pub mod Helps
+pub mod Numbers

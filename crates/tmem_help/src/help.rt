@@ -1,0 +1,115 @@
+//! What a fault means, and what to do.
+use std::fmt;
+use tmem_answers::words_of;
+use tmem_fault::Fault;
+
+/// What went wrong, and what to do, in a line for a fault.
+#[derive(Clone, Copy)]
+pub struct FaultHelp(pub Fault);
+
+impl fmt::Display for FaultHelp {
+    ghost use Rattle.std.specs.Prelude.{Some};
+    ghost use Rattle.tmem_help.specs.Helps.{fault_help};
+
+    ghost output = { λ help. Some (fault_help help.0) };
+
+    fn fmt<W: fmt::Write>(&self, f: &mut fmt::Formatter<W>) -> fmt::Result {
+        match &self.0 {
+            Fault::Memory => f.write_str(
+                "memory did not suffice, or no thread could be started; give the program more (ulimit -v, ulimit -u), or ask for less",
+            ),
+            Fault::Device => write!(
+                f,
+                "a call on the file failed, or a sync of it failed before, and this process makes none any more; look at its rights, at room (df), at limits (ulimit -f, ulimit -n), whether it is read-only, and into the system's log (dmesg); then open the store again, and see what it has before anything is repeated; if the store fails again, end each program that uses it, copy it to a new file on another disk, and sync that; only if it was copied to its end, use that copy alone from then on"
+            ),
+            Fault::Closed => f.write_str(
+                "an earlier failure has closed the store: a call on its file failed, or it could not be opened again; mend that, open the store again, and see what it has before anything is repeated",
+            ),
+            Fault::Unknown => write!(
+                f,
+                "a write or sync failed; of a flush, all of the batch is durable, or none of it; a checkpoint puts no transaction in doubt; repeat nothing yet: open the store again, after an error of the disk (dmesg) once the machine was started anew, and see how many transactions there are; if writes fail again, look for room, also below the device (df, lvs), or end each program that uses the store, copy it to a new file on another disk, and sync that; only if it was copied to its end, use that copy alone from then on"
+            ),
+            Fault::Full => f.write_str(
+                "256 transactions wait to be durable; flush, and settle again",
+            ),
+            Fault::LogFull => f.write_str(
+                "every slot of the log is used; make a checkpoint, and flush again",
+            ),
+            Fault::Conflict => f.write_str(
+                "a value that the transaction read has changed; begin it again",
+            ),
+            Fault::NotFormatted => f.write_str(
+                "this does not begin as a store; check the path; only if a store was there, move this away, and put a copy in its place (what the copy lacks is lost); only if there never was one, make one by tmem init",
+            ),
+            Fault::Damaged => f.write_str(
+                "the file is not as tmem leaves one: something else changed it, or a later version of tmem wrote it; run that version, or else move the file away and put a copy in its place (tmem does not repair it, and what the copy lacks is lost)",
+            ),
+            Fault::Missing(name) => write!(
+                f,
+                "the invariant {name} is registered in the store, and this program or shape has none of this name; check the paths of the store and of the shape or script; if they are the ones, open the store with the program or shape that used it last, as that was then; only if that had none of this name, too, something changed the file: move it away, and put a copy in its place (what the copy lacks is lost)"
+            ),
+            Fault::Broken(name) => write!(
+                f,
+                "the invariant {name} is registered in the store, and as this program or shape means it, it is false of the store's values; check the paths of the store and of the shape or script; if they are the ones, compare what it means here with what it meant in the program or shape that used the store last, as that was then; if that differs, open the store with that one; only if not, something changed the file: move it away, and put a copy in its place (what the copy lacks is lost)"
+            ),
+            Fault::BadPlan(cause) => write!(f, "{}; change the transaction", words_of(*cause)),
+            Fault::BadName => f.write_str(
+                "a name is not 1 to 16 letters from a to z, or stands twice, or there are more than 64; change the program",
+            ),
+            Fault::BadFootprint => f.write_str(
+                "an invariant is over no variable, over more than 16, over one twice, or over one that the store lacks (they count from 0); correct that invariant",
+            ),
+            Fault::Spent => f.write_str(
+                "the count of transactions or of images is at 2^64 - 1, to which no use comes, so something changed the file; see what it has (tmem show PATH); then move it away, and put a copy in its place (what the copy lacks is lost)",
+            ),
+            Fault::NoSeat => f.write_str(
+                "all 32 passes were given out, and one that was dropped is lost until the store is opened again; keep passes, or share them: acquire_pass lends one, and release_pass hands it back",
+            ),
+            Fault::Geometry => write!(
+                f,
+                "the numbers of variables and log slots that were asked for are out of limits (1 to 1024, 2 to 64) or not the store's own, or its file was cut off; check the paths; use the shape or script that the store was made with (tmem show PATH prints the store's numbers); if these are the same, move the file away, and put a copy in its place (what the copy lacks is lost)"
+            ),
+        }
+    }
+}
+
+/// What to do where an opening refuses the bytes of a store by a fault, in a line for it.
+#[derive(Clone, Copy)]
+pub struct RefusalHelp {
+    pub fault: Fault,
+    /// The bytes are fewer than those of any store.
+    pub is_of_no_store: bool,
+    /// They were read without the lock of their file.
+    pub is_shown: bool,
+}
+
+impl fmt::Display for RefusalHelp {
+    ghost use Rattle.std.specs.Prelude.{Some};
+    ghost use Rattle.tmem_help.specs.Helps.{refusal_help};
+
+    ghost output = { λ help. Some (refusal_help help) };
+
+    fn fmt<W: fmt::Write>(&self, f: &mut fmt::Formatter<W>) -> fmt::Result {
+        let RefusalHelp {
+            fault,
+            is_of_no_store,
+            is_shown,
+        } = *self;
+        match fault {
+            Fault::Geometry if is_of_no_store => write!(
+                f,
+                "these bytes are too few for a store; check the path; only if a store was there, move this away, and put a copy in its place (what the copy lacks is lost)"
+            ),
+            Fault::Geometry => write!(
+                f,
+                "the file was cut off, or is no store; check the path, or move it away and put a copy in its place (what the copy lacks is lost)"
+            ),
+            Fault::Damaged if is_shown => write!(
+                f,
+                "if a program has it open, look again; else {}",
+                FaultHelp(Fault::Damaged)
+            ),
+            _ => write!(f, "{}", FaultHelp(fault)),
+        }
+    }
+}
