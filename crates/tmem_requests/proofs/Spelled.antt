@@ -1,5 +1,5 @@
 -- A value as its first tokens spell it, the items of an array and the members of an object one after another.
-use Rattle.std.proofs.Common.{◌≡◌, ℕ, ◌-◌, ◌<◌, ◌≤◌, List, [], ◌∷◌, ◌++◌, length, Bool, Some, None, option_map, option_and_then, String, Vec, BTreeMap, Global, string_bytes, refl, sym, ap, ◌∙◌, subst, arith, rules}
+use Rattle.std.proofs.Common.{◌≡◌, ℕ, ◌-◌, ◌<◌, ◌≤◌, List, [], ◌∷◌, ◌++◌, length, Bool, Option, IfSome, Some, None, option_map, option_and_then, String, Vec, BTreeMap, Global, string_bytes, refl, sym, ap, ◌∙◌, subst, arith, rules}
 use Rattle.json.specs.Json as grammar
 use Rattle.json.specs.Json.{parse_map, after_end_array, read_key, if_last}
 use Rattle.json.specs.Token.{Token}
@@ -57,6 +57,12 @@ pub object_spelled : (depth : ℕ) (old after new : List Token) (m : BTreeMap (S
 object_spelled depth old after new m first deep h =
     spelled depth old new (grammar.object h.form) (object (members_view m.entries)) (view (value.Object m)) (ap (grammar.value depth) first ∙ value-begin_object depth after deep ∙ ap (parse_map grammar.object) h.reads)
     (ap (option_map object) h.are) (view-Object m)
+
+-- what comes behind its first token
+pub spelled_behind : (depth : ℕ) (first : Token) (old after new : List Token) (r : Option Value) → IfSome r (λ value. (all : List Token) → all ≡ first ∷ after → SpellsValue depth all (view value) new) → old ≡ first ∷ after
+    → IfSome r (λ value. SpellsValue depth old (view value) new)
+spelled_behind depth first old after new (Some value) spells is = spells old is
+spelled_behind depth first old after new None spells is = tt
 
 -- ---- the items so far
 

@@ -1,12 +1,14 @@
 //! JSON read over memory that is kept from line to line.
-ghost use Rattle.std.specs.Prelude.{◌≡◌, ◌==◌, ◌<◌, ◌∷◌, ℕ, List, length, slice_index, IfSome, IfOk, IfErr, OnSome, IsUtf8, IsTrue, Some, None};
+ghost use Rattle.std.specs.Prelude.{◌≡◌, ◌==◌, ◌<◌, ◌∷◌, ℕ, List, length, slice_index, option_map, string_bytes, IfSome, IfOk, IfErr, OnSome, IsUtf8, IsTrue, Some, None};
 ghost use Rattle.fast_float.specs.Text.{minus};
+ghost use Rattle.json.specs.Json.{read_key};
 ghost use Rattle.json.specs.Reads.{token_of};
 ghost use Rattle.json.specs.Token as grammar;
+ghost use Rattle.serde_json.specs.Data.{put};
 ghost use Rattle.serde_json.specs.Errors.{IsMemory};
 ghost use Rattle.serde_json.specs.Read.{number_of, read};
-ghost use Rattle.serde_json.specs.View.{items_view, members_view, number_view, view};
-ghost use Rattle.tmem_requests.specs.Tokens.{SpellsItems, SpellsMembers, SpellsValue};
+ghost use Rattle.serde_json.specs.View.{members_view, number_view, view};
+ghost use Rattle.tmem_requests.specs.Tokens.{SpellsValue};
 
 use fast_float::Numeral;
 use json::{Reader, Scratch, Token};
@@ -62,12 +64,8 @@ fn value_in(alloc: Global, reader: &mut Reader<'_>, depth: usize) -> Option<Valu
     ensures shorter { OnSome result (length reader.new < length reader.old) }
 {
     match reader.next()? {
-        Token::BeginArray => Some(Value::Array(items_in(alloc, reader, depth.checked_sub(1)?)?)),
-        Token::BeginObject => Some(Value::Object(members_in(
-            alloc,
-            reader,
-            depth.checked_sub(1)?,
-        )?)),
+        Token::BeginArray => array_in(alloc, reader, depth),
+        Token::BeginObject => object_in(alloc, reader, depth),
         token => value_alone(alloc, token),
     }
 }
@@ -85,33 +83,53 @@ fn value_alone(alloc: Global, token: Token<'_>) -> Option<Value>
     }
 }
 
-// The items up to the end of an array.
+// The array whose items come next, with its end.
 #[cycle(value)]
-fn items_in(alloc: Global, reader: &mut Reader<'_>, depth: usize) -> Option<Vec<Value>>
-    ensures value { IfSome result (λ items. SpellsItems depth reader.old (items_view items.items) reader.new) }
+fn array_in(alloc: Global, reader: &mut Reader<'_>, depth: usize) -> Option<Value>
+    ensures value { IfSome result (λ value. (old : List grammar.Token) → old ≡ grammar.begin_array ∷ reader.old → SpellsValue depth old (view value) reader.new) }
     ensures shorter { OnSome result (length reader.new < length reader.old) }
 {
+    let inner = depth.checked_sub(1)?;
     let mut items = Vec::new(alloc);
     'items: while !reader.take_end_array() {
-        let item = value_in(alloc, reader, depth)?;
+        let item = value_in(alloc, reader, inner)?;
         items.push(item).ok()?;
     }
-    Some(items)
+    Some(Value::Array(items))
 }
 
-// The members up to the end of an object. Of a key that stands twice the last value stays.
+// The object whose members come next, with its end. Of a key that stands twice the last value stays.
 #[cycle(value)]
-fn members_in(alloc: Global, reader: &mut Reader<'_>, depth: usize) -> Option<Map<String, Value>>
-    ensures value { IfSome result (λ members. SpellsMembers depth reader.old (members_view members.entries) reader.new) }
+fn object_in(alloc: Global, reader: &mut Reader<'_>, depth: usize) -> Option<Value>
+    ensures value { IfSome result (λ value. (old : List grammar.Token) → old ≡ grammar.begin_object ∷ reader.old → SpellsValue depth old (view value) reader.new) }
     ensures shorter { OnSome result (length reader.new < length reader.old) }
 {
+    let inner = depth.checked_sub(1)?;
     let mut members = Map::new(alloc);
-    'members: while let Some(key) = reader.next_key().ok()? {
-        let key = String::from_str(alloc, key).ok()?;
-        let member = value_in(alloc, reader, depth)?;
-        drop(members.insert(key, member).ok()?);
+    'members: while let Some(key) = key_in(alloc, reader)? {
+        let member = value_in(alloc, reader, inner)?;
+        put_member(&mut members, key, member)?;
     }
-    Some(members)
+    Some(Value::Object(members))
+}
+
+// The next key of an object, or none at its end.
+fn key_in(alloc: Global, reader: &mut Reader<'_>) -> Option<Option<String>>
+    ensures key { IfSome result (λ key. read_key reader.old ≡ Some (option_map string_bytes key, reader.new)) }
+    ensures shorter { OnSome result (length reader.new < length reader.old) }
+{
+    match reader.next_key().ok()? {
+        Some(key) => Some(Some(String::from_str(alloc, key).ok()?)),
+        None => Some(None),
+    }
+}
+
+// Puts a member into others, in place of that of its key.
+fn put_member(members: &mut Map<String, Value>, key: String, member: Value) -> Option<()>
+    ensures { OnSome result (members_view members.new.entries ≡ put (string_bytes key) (view member) (members_view members.old.entries)) }
+{
+    drop(members.insert(key, member).ok()?);
+    Some(())
 }
 
 // The integer of 64 bits that a numeral is.

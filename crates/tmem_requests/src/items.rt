@@ -1,5 +1,5 @@
 //! Arrays of one kind of items.
-ghost use Rattle.std.specs.Prelude.{◌≡◌, ◌∷◌, [], ℕ, ℤ, List, map, All, FitsSigned, IfOk, IfErr};
+ghost use Rattle.std.specs.Prelude.{◌≡◌, ◌∷◌, ◌++◌, [], ℕ, ℤ, List, map, All, FitsSigned, IfOk, IfErr};
 ghost use Rattle.std.specs.Int.{w64};
 ghost use Rattle.serde_json.specs.Data.{Data, string};
 ghost use Rattle.serde_json.specs.View.{view};
@@ -83,9 +83,19 @@ pub(crate) fn list_of<T: Item>(alloc: Global, value: &Value) -> Result<Vec<T>, F
     };
     let mut items = Vec::with_capacity(alloc, values.len())?;
     for item in values {
-        items.push(T::read(item)?)?;
+        push_read(&mut items, item)?;
     }
     Ok(items)
+}
+
+// Reads an item, and puts it behind others.
+fn push_read<T: Item>(items: &mut Vec<T>, value: &Value) -> Result<(), FormError>
+    ensures ok { IfOk result (λ _. map T.form items.new.items ≡ map T.form items.old.items ++ view value.now ∷ []) }
+    ensures in_range { IfOk result (λ _. All T.fits items.old.items → All T.fits items.new.items) }
+    ensures refused { IfErr result (λ e. Refuses e ((item : T) → T.fits item → ¬ (view value.now ≡ T.form item))) }
+{
+    items.push(T::read(value)?)?;
+    Ok(())
 }
 
 /// Reads the array of items that stands at a key. Where the key is left out, there are none.

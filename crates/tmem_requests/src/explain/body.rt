@@ -20,7 +20,7 @@ pub(crate) fn find_in_body(alloc: Global, key: &str, body: &Value) -> Result<(),
 {
     match key {
         "do" | "try" => find_in_tx(alloc, body),
-        "get" => find_in_items(alloc, ItemKind::Variable, body),
+        "get" => find_in_items(alloc, ItemKind::Number(NumberKind::Variable), body),
         "settle" => find_in_settle(alloc, body),
         "changed" => find_in_items(alloc, ItemKind::Pair, body),
         "cancel" => find_in_integer(alloc, body),
@@ -37,7 +37,7 @@ pub(crate) fn find_in_numbers(alloc: Global, value: &Value) -> Result<(), WrongV
     match value.get("numbers") {
         Some(numbers) => inside(
             PointerStep::Key("numbers"),
-            find_in_items(alloc, ItemKind::Integer, numbers),
+            find_in_items(alloc, ItemKind::Number(NumberKind::Integer), numbers),
         ),
         None => Ok(()),
     }
@@ -46,11 +46,17 @@ pub(crate) fn find_in_numbers(alloc: Global, value: &Value) -> Result<(), WrongV
 /// What the items of an array are.
 #[derive(Clone, Copy)]
 pub(crate) enum ItemKind {
+    Number(NumberKind),
+    Pair,
+    Word,
+}
+
+/// What a number is.
+#[derive(Clone, Copy)]
+pub(crate) enum NumberKind {
     Variable,
     Register,
     Integer,
-    Pair,
-    Word,
 }
 
 /// Finds the first item of an array that is wrong.
@@ -70,23 +76,37 @@ fn find_in_item(alloc: Global, kind: ItemKind, item: &Value) -> Result<(), Wrong
     ensures { IfErr result (λ w. IsTrueOf part (view item.now) w) }
 {
     match kind {
-        ItemKind::Variable => find_in_variable(alloc, item),
-        ItemKind::Register => find_in_register(alloc, item),
-        ItemKind::Integer => find_in_integer(alloc, item),
-        ItemKind::Pair => find_in_pair(alloc, item),
+        ItemKind::Number(kind) => find_in_number(alloc, kind, item),
+        ItemKind::Pair => find_in_two(alloc, NumberKind::Variable, NumberKind::Integer, item),
         ItemKind::Word => find_in_word(alloc, item),
     }
 }
 
-fn find_in_pair(alloc: Global, value: &Value) -> Result<(), WrongValue>
+/// The same with an array of two numbers.
+pub(crate) fn find_in_two(
+    alloc: Global,
+    first: NumberKind,
+    second: NumberKind,
+    value: &Value,
+) -> Result<(), WrongValue>
     ensures { IfErr result (λ w. IsTrueOf part (view value.now) w) }
 {
     match pair_of(value) {
-        Ok((var, number)) => {
-            inside(PointerStep::Item(0), find_in_variable(alloc, var))?;
-            inside(PointerStep::Item(1), find_in_integer(alloc, number))
+        Ok((left, right)) => {
+            inside(PointerStep::Item(0), find_in_number(alloc, first, left))?;
+            inside(PointerStep::Item(1), find_in_number(alloc, second, right))
         }
         Err(error) => Err(WrongValue::refused(alloc, error, RequestFlaw::NotTwo)),
+    }
+}
+
+fn find_in_number(alloc: Global, kind: NumberKind, value: &Value) -> Result<(), WrongValue>
+    ensures { IfErr result (λ w. IsTrueOf part (view value.now) w) }
+{
+    match kind {
+        NumberKind::Variable => find_in_variable(alloc, value),
+        NumberKind::Register => find_in_register(alloc, value),
+        NumberKind::Integer => find_in_integer(alloc, value),
     }
 }
 
@@ -120,7 +140,7 @@ pub(crate) fn find_in_integer(alloc: Global, value: &Value) -> Result<(), WrongV
     }
 }
 
-pub(crate) fn find_in_variable(alloc: Global, value: &Value) -> Result<(), WrongValue>
+fn find_in_variable(alloc: Global, value: &Value) -> Result<(), WrongValue>
     ensures { IfErr result (λ w. IsTrueOf part (view value.now) w) }
 {
     match short_of(value) {

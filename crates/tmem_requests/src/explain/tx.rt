@@ -6,7 +6,7 @@ ghost use Rattle.tmem_forms.specs.TxForms.{tagged};
 ghost use Rattle.tmem_requests.specs.Wrong.{IsTrueOf, part};
 
 use crate::explain::body::{
-    ItemKind, find_in_integer, find_in_items, find_in_register, find_in_variable, find_in_word,
+    ItemKind, NumberKind, find_in_items, find_in_register, find_in_two, find_in_word,
 };
 use crate::explain::wrong::{WrongValue, inside};
 use crate::place::PointerStep;
@@ -86,18 +86,15 @@ fn find_in_when(alloc: Global, body: &Value) -> Result<(), WrongValue>
     inside(PointerStep::Item(2), find_in_tx(alloc, other))
 }
 
+// Two transactions are looked at as those of a sequence are.
 #[cycle(find)]
 fn find_in_or_else(alloc: Global, body: &Value) -> Result<(), WrongValue>
     ensures { IfErr result (λ w. IsTrueOf part (view body.now) w) }
 {
-    let Value::Array(items) = body else {
-        return Err(WrongValue::here(alloc, RequestFlaw::NotTwo));
-    };
-    let [first, second] = items.as_slice() else {
-        return Err(WrongValue::here(alloc, RequestFlaw::NotTwo));
-    };
-    inside(PointerStep::Item(0), find_in_tx(alloc, first))?;
-    inside(PointerStep::Item(1), find_in_tx(alloc, second))
+    match pair_of(body) {
+        Ok(_) => find_in_seq(alloc, body),
+        Err(error) => Err(WrongValue::refused(alloc, error, RequestFlaw::NotTwo)),
+    }
 }
 
 // The same with an object of this key alone, where it holds no other transaction.
@@ -123,26 +120,14 @@ fn find_in_leaf(alloc: Global, key: &str, body: &Value) -> Result<(), WrongValue
 fn find_in_put(alloc: Global, body: &Value) -> Result<(), WrongValue>
     ensures { IfErr result (λ w. IsTrueOf part (view body.now) w) }
 {
-    match pair_of(body) {
-        Ok((register, number)) => {
-            inside(PointerStep::Item(0), find_in_register(alloc, register))?;
-            inside(PointerStep::Item(1), find_in_integer(alloc, number))
-        }
-        Err(error) => Err(WrongValue::refused(alloc, error, RequestFlaw::NotTwo)),
-    }
+    find_in_two(alloc, NumberKind::Register, NumberKind::Integer, body)
 }
 
 // The same with a variable and a register.
 fn find_in_access(alloc: Global, body: &Value) -> Result<(), WrongValue>
     ensures { IfErr result (λ w. IsTrueOf part (view body.now) w) }
 {
-    match pair_of(body) {
-        Ok((var, register)) => {
-            inside(PointerStep::Item(0), find_in_variable(alloc, var))?;
-            inside(PointerStep::Item(1), find_in_register(alloc, register))
-        }
-        Err(error) => Err(WrongValue::refused(alloc, error, RequestFlaw::NotTwo)),
-    }
+    find_in_two(alloc, NumberKind::Variable, NumberKind::Register, body)
 }
 
 // The same with a call of a step: its name, the registers that it is handed, and the one that takes its answer.
@@ -158,7 +143,7 @@ fn find_in_step(alloc: Global, body: &Value) -> Result<(), WrongValue>
     inside(PointerStep::Item(0), find_in_step_name(alloc, name))?;
     inside(
         PointerStep::Item(1),
-        find_in_items(alloc, ItemKind::Register, registers),
+        find_in_items(alloc, ItemKind::Number(NumberKind::Register), registers),
     )?;
     inside(PointerStep::Item(2), find_in_register(alloc, register))
 }

@@ -6,25 +6,7 @@ use Rattle.tmem_forms.specs.TxForms.{tagged}
 use Rattle.tmem_requests.specs.Wrong.{IsTrueOf, is_headed, part}
 use Rattle.tmem_requests.proofs.Wrongs.{handed, item_there, length_of_array, not_headed, one_member}
 use Rattle.tmem_requests.proofs.explain.tx.+find.Goals as goal
-use Rattle.tmem_requests.proofs.explain.tx.+find.Goals.{find_in_or_else-in_default-as_slice-via-then-as_slice-lt2, find_in_or_else-in_default-as_slice-via-else-as_slice-lt2+else-this-lt3, find_in_when-in_default-as_slice-via-then-as_slice-lt3, find_in_when-in_default-as_slice-via-else-as_slice-lt3+else-this-lt4}
-
-pub find_in_or_else-returns-in_default-as_slice : goal.find_in_or_else-returns-in_default-as_slice
-find_in_or_else-returns-in_default-as_slice t c =
-    c.here-in_default-as_slice.ensures part (view c.args.body.now) (λ x y is.
-    let two = length_of_array c.args.body.now c.in-Array.items c.as_slice.result.now (x ∷ y ∷ []) c.in-Array.is c.as_slice.ensures.value is in
-    elim c.in_default-as_slice.branch [ find_in_or_else-in_default-as_slice-via-then-as_slice-lt2 w ↦ first_of (omega (arith, ltb-true), grind (arith, nat_tests), search (rules, tests)) | find_in_or_else-in_default-as_slice-via-else-as_slice-lt2+else-this-lt3 w ↦ first_of (omega (arith, ltb-true), grind (arith, nat_tests), search (rules, tests)) ])
-
-pub find_in_or_else-returns-in_err-inside : goal.find_in_or_else-returns-in_err-inside
-find_in_or_else-returns-in_err-inside t c =
-    let there = item_there c.args.body.now c.in-Array.items c.as_slice.result.now 0 c.first-item.result c.in-Array.is c.as_slice.ensures.value (omega (arith, c.in-len2.len_at_least, c.in-len2.len_below)) c.first-item.is in
-    handed (λ w. IsTrueOf part (view c.args.body.now) w) c.from_residual.result c.in_err-inside.field-0.0 c.from_residual.ensures.1
-    (c.in_err-inside.ensures.told part (view c.args.body.now) (view c.first-item.result) there c.find_in_tx.ensures)
-
-pub find_in_or_else-returns : goal.find_in_or_else-returns
-find_in_or_else-returns t c =
-    c.inside-2.ensures.told part (view c.args.body.now) (view c.second-item.result)
-    (item_there c.args.body.now c.in-Array.items c.as_slice.result.now 1 c.second-item.result c.in-Array.is c.as_slice.ensures.value (omega (arith, c.in-len2.len_at_least, c.in-len2.len_below)) c.second-item.is)
-    c.find_in_tx-2.ensures
+use Rattle.tmem_requests.proofs.explain.tx.+find.Goals.{find_in_when-in_default-as_slice-via-then-as_slice-lt3, find_in_when-in_default-as_slice-via-else-as_slice-lt3+else-this-lt4}
 
 pub find_in_seq-returns-in_err-inside : goal.find_in_seq-returns-in_err-inside
 find_in_seq-returns-in_err-inside t c =
