@@ -3,17 +3,21 @@ ghost use Rattle.std.specs.Prelude.{◌≡◌, length};
 ghost use Rattle.tmem_tree.specs.Plans.{FitsSteps, FitsVariables, FitsNames, FitsShapes};
 
 use crate::printing::{say_fault, say_line, say_number};
-use crate::tasks::{ENDING, Task};
+use crate::tasks::{TASKS, Task};
 use std::alloc::Global;
 use std::rt::Clock;
 use std::sync::Wait;
 use std::time::Duration;
+use tmem_builtins::BuiltinSteps;
 use tmem_core::Settled;
-use tmem_disk::Disk;
+use tmem_disk::SimDisk;
 use tmem_fault::Fault;
 use tmem_front::{Front, Pass, StoreNaming};
 use tmem_invariants::Invariants;
 use tmem_tree::{Plan, StoredSteps};
+
+/// The front of the store that the calls are made on.
+pub(crate) type StoreFront<N, T> = Front<SimDisk, N, T, BuiltinSteps>;
 
 /// A call that makes an attempt, or one with its settle.
 #[derive(Clone, Copy, Debug)]
@@ -27,63 +31,59 @@ enum Call {
 /// Those that wait for nothing where a transaction retries.
 const AT_ONCE: &[Call] = &[Call::Attempt, Call::TryAtomically];
 
-/// Those that wait.
-const WAITING: &[Call] = &[Call::Atomically, Call::AtomicallyWithin];
+/// These, and those that wait.
+const ALL: &[Call] = &[
+    Call::Attempt,
+    Call::TryAtomically,
+    Call::Atomically,
+    Call::AtomicallyWithin,
+];
 
 /// Settles each transaction by each call that ends, reads all values, makes durable what was committed, and shuts the front.
-pub(crate) fn settle_all<
-    N: StoreNaming,
-    D: Disk + Drop,
-    T: Invariants + Drop,
-    S: StoredSteps + Drop,
-    R: Clock + Print + Wait,
->(rt: &R, alloc: Global, front: &Front<D, N, T, S>, looker: &mut Pass<N>) -> Result<(), Fault>
+pub(crate) fn settle_all<N: StoreNaming, T: Invariants + Drop, R: Clock + Print + Wait>(
+    rt: &R,
+    alloc: Global,
+    front: &StoreFront<N, T>,
+    looker: &mut Pass<N>,
+) -> Result<(), Fault>
     requires { length N.opening.values ≡ 4 }
 {
     say_state(rt, front, looker);
-    for task in ENDING {
-        settle_by(rt, alloc, front, looker, AT_ONCE, *task)?;
-        settle_by(rt, alloc, front, looker, WAITING, *task)?;
-    }
-    settle_by(rt, alloc, front, looker, AT_ONCE, Task::Retries)?;
+    settle_each(rt, alloc, front, looker)?;
     read_values(rt, front, looker)?;
     end(rt, front, looker)
 }
 
-// Settles a transaction by some calls, each time by a pass that has no memory yet.
-fn settle_by<
-    N: StoreNaming,
-    D: Disk + Drop,
-    T: Invariants + Drop,
-    S: StoredSteps + Drop,
-    R: Clock + Print + Wait,
->(
+// Settles each transaction by its calls, each time by a pass that has no memory yet.
+fn settle_each<N: StoreNaming, T: Invariants + Drop, R: Clock + Print + Wait>(
     rt: &R,
     alloc: Global,
-    front: &Front<D, N, T, S>,
+    front: &StoreFront<N, T>,
     looker: &mut Pass<N>,
-    calls: &[Call],
-    task: Task,
 ) -> Result<(), Fault>
     requires { length N.opening.values ≡ 4 }
 {
-    for call in calls {
-        settle_task(rt, alloc, front, looker, *call, task)?;
+    for task in TASKS {
+        for call in calls_of(*task) {
+            settle_task(rt, alloc, front, looker, *call, *task)?;
+        }
     }
     Ok(())
 }
 
+// The calls that a transaction is settled by. For one that retries they wait for nothing.
+fn calls_of(task: Task) -> &'static [Call] {
+    match task {
+        Task::Retries => AT_ONCE,
+        _ => ALL,
+    }
+}
+
 // Plans a transaction, and settles it.
-fn settle_task<
-    N: StoreNaming,
-    D: Disk + Drop,
-    T: Invariants + Drop,
-    S: StoredSteps + Drop,
-    R: Clock + Print + Wait,
->(
+fn settle_task<N: StoreNaming, T: Invariants + Drop, R: Clock + Print + Wait>(
     rt: &R,
     alloc: Global,
-    front: &Front<D, N, T, S>,
+    front: &StoreFront<N, T>,
     looker: &mut Pass<N>,
     call: Call,
     task: Task,
@@ -101,21 +101,15 @@ fn say_task<R: Print>(rt: &R, task: Task) {
 }
 
 // Settles a plan by a pass that has no memory yet.
-fn settle_plan<
-    N: StoreNaming,
-    D: Disk + Drop,
-    T: Invariants + Drop,
-    S: StoredSteps + Drop,
-    R: Clock + Print + Wait,
->(
+fn settle_plan<N: StoreNaming, T: Invariants + Drop, R: Clock + Print + Wait>(
     rt: &R,
-    front: &Front<D, N, T, S>,
+    front: &StoreFront<N, T>,
     looker: &mut Pass<N>,
     plan: &Plan,
     call: Call,
 ) -> Result<(), Fault>
     requires vars { length N.opening.values ≡ 4 }
-    requires steps { FitsSteps (S.arities front.now.steps) plan.now.tree }
+    requires steps { FitsSteps (⟦<BuiltinSteps as StoredSteps>⟧.arities front.now.steps) plan.now.tree }
     requires variables { FitsVariables front.now.vars plan.now }
     requires names { FitsNames N.program.names plan.now.tree }
     requires shapes { FitsShapes N.program.tests plan.now }
@@ -130,22 +124,16 @@ fn say_call<R: Print>(rt: &R, call: Call) {
 }
 
 // Settles a plan, and once more where that is refused memory.
-fn settle_twice<
-    N: StoreNaming,
-    D: Disk + Drop,
-    T: Invariants + Drop,
-    S: StoredSteps + Drop,
-    R: Clock + Print + Wait,
->(
+fn settle_twice<N: StoreNaming, T: Invariants + Drop, R: Clock + Print + Wait>(
     rt: &R,
-    front: &Front<D, N, T, S>,
+    front: &StoreFront<N, T>,
     looker: &mut Pass<N>,
     pass: &mut Pass<N>,
     plan: &Plan,
     call: Call,
 ) -> Result<(), Fault>
     requires vars { length N.opening.values ≡ 4 }
-    requires steps { FitsSteps (S.arities front.now.steps) plan.now.tree }
+    requires steps { FitsSteps (⟦<BuiltinSteps as StoredSteps>⟧.arities front.now.steps) plan.now.tree }
     requires variables { FitsVariables front.now.vars plan.now }
     requires names { FitsNames N.program.names plan.now.tree }
     requires shapes { FitsShapes N.program.tests plan.now }
@@ -161,29 +149,23 @@ fn settle_twice<
 }
 
 // What a plan is settled with by a call.
-fn settled<
-    D: Disk + Drop,
-    N: StoreNaming,
-    T: Invariants + Drop,
-    S: StoredSteps + Drop,
-    R: Clock + Wait,
->(
+fn settled<N: StoreNaming, T: Invariants + Drop, R: Clock + Wait>(
     rt: &R,
-    front: &Front<D, N, T, S>,
+    front: &StoreFront<N, T>,
     pass: &mut Pass<N>,
     plan: &Plan,
     call: Call,
 ) -> Result<Settled, Fault>
-    requires steps { FitsSteps (S.arities front.now.steps) plan.now.tree }
+    requires steps { FitsSteps (⟦<BuiltinSteps as StoredSteps>⟧.arities front.now.steps) plan.now.tree }
     requires variables { FitsVariables front.now.vars plan.now }
     requires names { FitsNames N.program.names plan.now.tree }
     requires shapes { FitsShapes N.program.tests plan.now }
 {
     match call {
-        Call::Attempt => {
-            let attempt = front.attempt(rt, plan)?;
-            front.settle(rt, pass, &attempt)
-        }
+        Call::Attempt => match front.attempt(rt, plan) {
+            Ok(attempt) => front.settle(rt, pass, &attempt),
+            Err(fault) => Err(fault),
+        },
         Call::TryAtomically => front.try_atomically(rt, pass, plan),
         Call::Atomically => front.atomically(rt, pass, plan),
         Call::AtomicallyWithin => {
@@ -205,13 +187,11 @@ fn say<R: Print>(rt: &R, settled: &Result<Settled, Fault>) {
 }
 
 // Prints how many transactions are committed and durable, and the values.
-fn say_state<
-    N: StoreNaming,
-    D: Disk + Drop,
-    T: Invariants + Drop,
-    S: StoredSteps + Drop,
-    R: Print + Wait,
->(rt: &R, front: &Front<D, N, T, S>, looker: &mut Pass<N>)
+fn say_state<N: StoreNaming, T: Invariants + Drop, R: Print + Wait>(
+    rt: &R,
+    front: &StoreFront<N, T>,
+    looker: &mut Pass<N>,
+)
     requires { length N.opening.values ≡ 4 }
 {
     let counts = (front.count(rt, looker), front.look(looker));
@@ -227,13 +207,11 @@ fn print_state<R: Print>(rt: &R, counts: (u64, u64), values: &[i64; 4]) {
 }
 
 // Reads all values at one moment, once more where that is refused.
-fn read_values<
-    N: StoreNaming,
-    D: Disk + Drop,
-    T: Invariants + Drop,
-    S: StoredSteps + Drop,
-    R: Print + Wait,
->(rt: &R, front: &Front<D, N, T, S>, looker: &mut Pass<N>) -> Result<(), Fault>
+fn read_values<N: StoreNaming, T: Invariants + Drop, R: Print + Wait>(
+    rt: &R,
+    front: &StoreFront<N, T>,
+    looker: &mut Pass<N>,
+) -> Result<(), Fault>
     requires { length N.opening.values ≡ 4 }
 {
     say_line(rt, "values");
@@ -256,13 +234,11 @@ fn say_values<R: Print>(rt: &R, values: &[i64]) {
 }
 
 // Calls that ask for no memory, to the end.
-fn end<
-    N: StoreNaming,
-    D: Disk + Drop,
-    T: Invariants + Drop,
-    S: StoredSteps + Drop,
-    R: Print + Wait,
->(rt: &R, front: &Front<D, N, T, S>, looker: &mut Pass<N>) -> Result<(), Fault>
+fn end<N: StoreNaming, T: Invariants + Drop, R: Print + Wait>(
+    rt: &R,
+    front: &StoreFront<N, T>,
+    looker: &mut Pass<N>,
+) -> Result<(), Fault>
     requires { length N.opening.values ≡ 4 }
 {
     say_number(rt, "durable", front.flush_once(rt)?);
@@ -273,13 +249,11 @@ fn end<
 }
 
 // Makes one more pass, and shuts the front.
-fn shut<
-    N: StoreNaming,
-    D: Disk + Drop,
-    T: Invariants + Drop,
-    S: StoredSteps + Drop,
-    R: Print + Wait,
->(rt: &R, front: &Front<D, N, T, S>, looker: &mut Pass<N>) -> Result<(), Fault>
+fn shut<N: StoreNaming, T: Invariants + Drop, R: Print + Wait>(
+    rt: &R,
+    front: &StoreFront<N, T>,
+    looker: &mut Pass<N>,
+) -> Result<(), Fault>
     requires { length N.opening.values ≡ 4 }
 {
     let _pass = front.pass(rt)?;

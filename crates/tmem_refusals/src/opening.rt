@@ -12,8 +12,8 @@ use std::alloc::Global;
 use std::marker::Brand;
 use std::rt::Clock;
 use std::sync::Wait;
-use tmem_builtins::{names, nonneg, stored_steps};
-use tmem_disk::{Disk, SimDisk};
+use tmem_builtins::{BuiltinSteps, names, nonneg, stored_steps};
+use tmem_disk::SimDisk;
 use tmem_fault::Fault;
 use tmem_front::{OpenedFront, StoreNaming};
 use tmem_invariants::Invariants;
@@ -89,21 +89,21 @@ fn open_with<R: Clock + Print + Wait>(
 }
 
 // Opens a device, and settles transactions there. Answers why it was not opened, with the device.
-fn open<T: Invariants + Drop, S: StoredSteps + Drop, R: Clock + Print + Wait>(
+fn open<T: Invariants + Drop, R: Clock + Print + Wait>(
     rt: &R,
     alloc: Global,
     disk: SimDisk,
     table: T,
-    steps: S,
+    steps: BuiltinSteps,
 ) -> Result<Option<(Fault, SimDisk)>, Fault>
     requires vars { T.vars table ≡ 4 }
     requires names { T.names table ≡ stored.names }
     requires tests { T.is_stated table stored.tests }
-    requires steps { S.is_stated steps stored.steps }
+    requires steps { ⟦<BuiltinSteps as StoredSteps>⟧.is_stated steps stored.steps }
 {
     match OpenedFront::open(alloc, disk, VARS, SLOTS, table, steps) {
         Ok(opened) => {
-            with_front::<Brand, _, T, S, R>(rt, alloc, opened)?;
+            with_front::<Brand, T, R>(rt, alloc, opened)?;
             Ok(None)
         }
         Err(refused) => Ok(Some(refused)),
@@ -111,20 +111,18 @@ fn open<T: Invariants + Drop, S: StoredSteps + Drop, R: Clock + Print + Wait>(
 }
 
 // Gives the store its name in the types, and settles transactions there.
-fn with_front<
-    N: StoreNaming,
-    D: Disk + Drop,
-    T: Invariants + Drop,
-    S: StoredSteps + Drop,
-    R: Clock + Print + Wait,
->(rt: &R, alloc: Global, opened: OpenedFront<D, T, S>) -> Result<(), Fault>
+fn with_front<N: StoreNaming, T: Invariants + Drop, R: Clock + Print + Wait>(
+    rt: &R,
+    alloc: Global,
+    opened: OpenedFront<SimDisk, T, BuiltinSteps>,
+) -> Result<(), Fault>
     requires spine { spine_of opened ≡ N.name }
     requires opening { front_found opened ≡ N.opening }
     requires vars { length N.opening.values ≡ 4 }
     requires program { N.program ≡ stored }
     requires names { T.names (front_table opened) ≡ stored.names }
     requires stated { T.is_stated (front_table opened) stored.tests }
-    requires steps { S.is_stated (front_steps opened) stored.steps }
+    requires steps { ⟦<BuiltinSteps as StoredSteps>⟧.is_stated (front_steps opened) stored.steps }
 {
     let front = opened.named::<N>();
     let mut looker = front.pass(rt)?;

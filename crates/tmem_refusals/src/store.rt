@@ -45,26 +45,17 @@ fn with_transaction<T: Invariants + Drop, S: StoredSteps + Drop>(
     }
 }
 
-// Puts the transaction into a world, and gives its device.
+// Commits the transaction in a world, makes it durable, and gives the world's device.
 fn left_by<D: Disk + Drop, T: Invariants + Drop, S: StoredSteps + Drop>(
     alloc: Global,
     mut world: World<D, T, S>,
 ) -> Result<D, Fault> {
-    put_seven(alloc, &mut world)?;
-    Ok(world.into_disk())
-}
-
-// Commits the transaction, and makes it durable.
-fn put_seven<D: Disk + Drop, T: Invariants + Drop, S: StoredSteps + Drop>(
-    alloc: Global,
-    world: &mut World<D, T, S>,
-) -> Result<(), Fault> {
     let tx = put(alloc, 1, 7)?;
     world.step(Event::Begin { slot: 0, tx });
     world.step(Event::Turn { slot: 0 });
     world.step(Event::Settle { slot: 0 });
     world.step(Event::Flush);
-    Ok(())
+    Ok(world.into_disk())
 }
 
 /// All bytes of a device.

@@ -23,14 +23,15 @@ pub(crate) enum Task {
     Retries,
 }
 
-/// All that end without a wait.
-pub(crate) const ENDING: &[Task] = &[
+/// All of them, in the order in which they are settled.
+pub(crate) const TASKS: &[Task] = &[
     Task::Puts,
     Task::Adds,
     Task::Chooses,
     Task::Reads,
     Task::Breaks,
     Task::Aborts,
+    Task::Retries,
 ];
 
 impl Task {
@@ -38,7 +39,7 @@ impl Task {
         match self {
             Task::Puts => puts(alloc),
             Task::Adds => add_to(alloc, 1, 10),
-            Task::Chooses => first_of(alloc, take(alloc, 2, 100)?, add_to(alloc, 3, 2)?),
+            Task::Chooses => chooses(alloc),
             Task::Reads => reads(alloc),
             Task::Breaks => put(alloc, 0, -1),
             Task::Aborts => behind_read(alloc, Tx::Abort { code: 9 }),
@@ -48,8 +49,11 @@ impl Task {
 }
 
 fn puts(alloc: Global) -> Result<Tx, AllocError> {
-    let check = Tx::Check { name: names()[0] };
-    Ok(all_of(vec![in alloc; put(alloc, 0, 5)?, check]?))
+    both(alloc, put(alloc, 0, 5)?, Tx::Check { name: names()[0] })
+}
+
+fn chooses(alloc: Global) -> Result<Tx, AllocError> {
+    first_of(alloc, take(alloc, 2, 100)?, add_to(alloc, 3, 2)?)
 }
 
 fn reads(alloc: Global) -> Result<Tx, AllocError> {
@@ -61,5 +65,10 @@ fn reads(alloc: Global) -> Result<Tx, AllocError> {
 }
 
 fn behind_read(alloc: Global, last: Tx) -> Result<Tx, AllocError> {
-    Ok(all_of(vec![in alloc; read(2).into_register(0), last]?))
+    both(alloc, read(2).into_register(0), last)
+}
+
+// One after the other.
+fn both(alloc: Global, first: Tx, second: Tx) -> Result<Tx, AllocError> {
+    Ok(all_of(vec![in alloc; first, second]?))
 }
