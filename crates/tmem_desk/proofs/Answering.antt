@@ -1,8 +1,11 @@
 -- What leads from one view of a desk to the next.
-use Rattle.std.proofs.Common.{◌≡◌, inr, ℕ, ℤ, Bool, true, false, nat_lt, List, [], ◌∷◌, ◌++◌, length, Option, Some, None, refl, ap, sym, ◌∙◌, subst}
-use Rattle.std.specs.Prelude.{if◌then◌else◌}
+use Rattle.std.proofs.Common.{◌≡◌, inl, inr, ℕ, ℤ, Bool, true, false, nat_lt, List, [], ◌∷◌, ◌++◌, length, Option, Some, None, Result, Ok, Err, IfOk, IfErr, refl, ap, sym, ◌∙◌, subst}
+use Rattle.std.specs.Prelude.{if◌then◌else◌, OnOk, IsErr}
+use Rattle.std.proofs.lemmas.Bool.{false≢true}
+use Rattle.tmem_fault.specs.declared.fault.Fault.{Fault}
 use Rattle.tmem_fault.specs.declared.fault.Fault.TheVariants as fault
 use Rattle.tmem_effect.specs.Prefix.{IsPrefix}
+use Rattle.tmem_seats.specs.Settling.{SeesMore}
 use Rattle.tmem_spine.specs.declared.view.Entry.{Entry}
 use Rattle.tmem_spine.specs.History.{count, longer}
 use Rattle.tmem_spine.specs.Views.{PassRoleView}
@@ -12,6 +15,7 @@ use Rattle.tmem_requests.specs.declared.request.RequestBody.{RequestBody}
 use Rattle.tmem_requests.specs.declared.request.RequestBody.TheVariants as ask
 use Rattle.tmem_desk.specs.Asking.{Store, Tries, AnswersAsk}
 use Rattle.tmem_desk.specs.Desks.{DeskView}
+use Rattle.tmem_desk.specs.Failing.{LearnsOnly, OrMemory}
 use Rattle.tmem_desk.specs.Serving.{IsAnsweredAtOnce, MayWait, Takes, TriesNext, tells, tried, tried_again, by}
 use Rattle.tmem_desk.specs.Told.{answer_told}
 
@@ -77,3 +81,21 @@ looked s old new number is counts seen known = (
     known = known;
   },
 )
+
+-- a call of the store whose answer is told, where there is one
+pub told_if_any : {T : Type 0} {P : Answer → Type 0} {Q : Answer → Type 0} (R : Type 0) (answered : Result Answer Fault) (result : Result T Fault) → ((given : Answer) → P given → Q given → R) → IfOk answered P → IfOk answered (λ given. OnOk result (Q given)) → IfErr answered (λ _. IsErr result)
+    → OnOk result R
+told_if_any R (Ok given) (Ok x) both one other never = both given one other
+told_if_any R (Ok given) (Err f) both one other never = tt
+told_if_any R (Err g) (Ok x) both one other never = absurd (false≢true never)
+told_if_any R (Err g) (Err f) both one other never = tt
+
+-- or the fault is handed on
+pub failed_if_none : {T : Type 0} (v w : DeskView) (pass : PassRoleView) (answered : Result Answer Fault) (result : Result T Fault) → IfErr answered (λ _. SeesMore v.pass pass)
+    → IfErr result (λ f. OrMemory f (IsErr answered × (w ≡ by v pass))) → IfErr result (λ f. OrMemory f (LearnsOnly v w))
+failed_if_none v w pass answered (Ok x) sees so = tt
+failed_if_none v w pass answered (Err f) sees (inl is) = inl is
+failed_if_none v w pass (Ok given) (Err f) sees (inr (never, same)) = absurd (false≢true never)
+failed_if_none v w pass (Err g) (Err f) sees (inr (never, same)) =
+    let at : w.pass ≡ pass = ap (λ (x : DeskView). x.pass) same in
+    inr (record { is = subst (λ (p : PassRoleView). w ≡ by v p) (sym at) same; sees = subst (λ (p : PassRoleView). SeesMore v.pass p) (sym at) sees })

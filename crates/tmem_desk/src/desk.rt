@@ -1,5 +1,5 @@
 // The desk: what each line is answered.
-ghost use Rattle.std.specs.Prelude.{◌≡◌, [], ◌∷◌, length, None, Some, position, OnOk, IsErr, IfErr};
+ghost use Rattle.std.specs.Prelude.{◌≡◌, [], ◌∷◌, length, None, Some, position, OnOk, IsErr, IfOk, IfErr};
 ghost use Rattle.std.specs.Ordering.{int_eq};
 ghost use Rattle.tmem_requests.specs.Fits.{FitsStore};
 ghost use Rattle.tmem_requests.specs.declared.request.RequestBody.TheVariants.{Do};
@@ -82,6 +82,15 @@ impl<N: ServedNaming> Desk<N> {
     {
         self.tell(id, Answer::Fault(*fault))?;
         Err(*fault)
+    }
+
+    // Tells what a request is answered, unless the store cannot go on.
+    fn tell_or_fail(&mut self, id: i64, answered: Result<Answer, Fault>) -> Result<(), Fault>
+        ensures ok { IfOk answered (λ answer. OnOk result (desk_view self.new ≡ tells (desk_view self.old) (answer_told id answer ∷ []))) }
+        ensures fails { IfErr answered (λ _. IsErr result) }
+        ensures err { IfErr result (λ f. OrMemory f (IsErr answered × (desk_view self.new ≡ desk_view self.old))) }
+    {
+        self.tell(id, answered?)
     }
 
     // Tells that the last line is no request.
@@ -192,28 +201,28 @@ impl<N: ServedNaming> Desk<N> {
             ),
             RequestBody::Cancel(other) => self.cancel(id, other),
             RequestBody::Try(tx) => {
-                let answer = service.try_once(&mut self.pass, tx)?;
-                self.tell(id, answer)
+                let answered = service.try_once(&mut self.pass, tx);
+                self.tell_or_fail(id, answered)
             }
             RequestBody::Get(vars) => {
                 let (count, values) = service.see(&mut self.pass, &vars)?;
                 self.tell(id, Answer::Values { count, values })
             }
             RequestBody::Settle(proposal) => {
-                let answer = service.propose(&mut self.pass, &proposal)?;
-                self.tell(id, answer)
+                let answered = service.propose(&mut self.pass, &proposal);
+                self.tell_or_fail(id, answered)
             }
             RequestBody::Look => {
                 let number = service.look(&mut self.pass);
                 self.tell(id, Answer::Durable(number))
             }
             RequestBody::State => {
-                let answer = service.see_all(&mut self.pass)?;
-                self.tell(id, answer)
+                let answered = service.see_all(&mut self.pass);
+                self.tell_or_fail(id, answered)
             }
             RequestBody::Checkpoint => {
-                let answer = service.write_image()?;
-                self.tell(id, answer)
+                let answered = service.write_image();
+                self.tell_or_fail(id, answered)
             }
             RequestBody::Keep(word, tx) => self.keep(service, id, word, tx),
             RequestBody::Run(word, numbers) => self.run_kept(service, id, &word, &numbers),

@@ -1,4 +1,4 @@
-use Rattle.std.proofs.Common.{inl, inr, ◌≡◌, ◌≤◌, ℕ, List, sym, ◌∙◌, subst, take, length, arith}
+use Rattle.std.proofs.Common.{inl, inr, ◌≡◌, ◌≤◌, ℕ, List, [], sym, ◌∙◌, subst, take, length, arith}
 use Rattle.std.specs.Io.KnownBytes.{Consumes}
 use Rattle.std.proofs.lemmas.List.{take_at}
 use Rattle.tmem_desk.specs.Asking.{store}
@@ -38,7 +38,7 @@ returns-in_err-end-in-Err-clause-stopped g c =
     let read = c.in-Err.ensures.none in
     let given = g.W.Write.contents c.end.new.out in
     err_is (StopsInput s v unread left before given) c.from_residual-in_err-end-in-Err.result c.in_err-end-in-Err.field-0.0 c.from_residual-in_err-end-in-Err.ensures.1
-    (stopped s v unread before met c.loop.lines rest left after given _ c.in_err-end-in-Err.field-0.0 so read c.in_err-end-in-Err.ensures.ends (inr (desk_view c.end.new.self, c.in_err-end-in-Err.ensures.told so.left so.stands)))
+    (stopped s v unread before met c.loop.lines rest left after given [] c.in_err-end-in-Err.field-0.0 so read c.in_err-end-in-Err.ensures.ends (inr (desk_view c.end.new.self, c.in_err-end-in-Err.ensures.told so.left so.stands)))
 
 pub returns-in-Err-clause-served : goal.returns-in-Err-clause-served
 returns-in-Err-clause-served g c =
@@ -87,9 +87,9 @@ returns-in_err-serve-in-Ok-clause-stopped g c =
     let long : length c.read_some.new.piece ≡ c.loop.piece.len = omega arith in
     let same : c.deref.result.now ≡ c.read_some.new.piece = c.deref.ensures.value ∙ take_at c.read_some.new.piece _ c.loop.piece.len long in
     let piece : c.first_of.result.now ≡ take c.in-Ok.count c.read_some.new.piece = subst (λ (xs : List ℕ). c.first_of.result.now ≡ take c.in-Ok.count xs) same c.first_of.ensures in
-    let came = subst (Consumes rest left) (sym piece) read in
+    let came : Consumes rest left c.first_of.result.now = subst (Consumes rest left) (sym piece) read in
     err_is (StopsInput s v unread left before given) c.from_residual-in_err-serve-in-Ok.result c.in_err-serve-in-Ok.field-0.0 c.from_residual-in_err-serve-in-Ok.ensures.1
-    (stopped s v unread before met c.loop.lines rest left after given _ c.in_err-serve-in-Ok.field-0.0 so came c.in_err-serve-in-Ok.ensures.ends (inl (c.serve.new.lines, desk_view c.serve.new.self, c.in_err-serve-in-Ok.ensures.told so.left so.stands)))
+    (stopped s v unread before met c.loop.lines rest left after given c.first_of.result.now c.in_err-serve-in-Ok.field-0.0 so came c.in_err-serve-in-Ok.ensures.ends (inl (c.serve.new.lines, desk_view c.serve.new.self, c.in_err-serve-in-Ok.ensures.told so.left so.stands)))
 
 pub loop-preserved : goal.loop-preserved
 loop-preserved g c =
@@ -108,7 +108,7 @@ loop-preserved g c =
     let long : length c.read_some.new.piece ≡ c.loop.piece.len = omega arith in
     let same : c.deref.result.now ≡ c.read_some.new.piece = c.deref.ensures.value ∙ take_at c.read_some.new.piece _ c.loop.piece.len long in
     let piece : c.first_of.result.now ≡ take c.in-Ok.count c.read_some.new.piece = subst (λ (xs : List ℕ). c.first_of.result.now ≡ take c.in-Ok.count xs) same c.first_of.ensures in
-    let came = subst (Consumes rest left) (sym piece) read in
+    let came : Consumes rest left c.first_of.result.now = subst (Consumes rest left) (sym piece) read in
     record {
       served = one_served s v unread before met (desk_view c.serve.new.self) c.loop.lines c.serve.new.lines rest left after given flushed c.first_of.result.now so came c.in_ok-serve-in-Ok.ensures.serves c.flush.ensures.kept;
       room = subst (λ (xs : List ℕ). 1 ≤ length xs) (sym (take_at c.read_some.new.piece _ c.loop.piece.len long)) (omega (arith, long, c.loop.invariant.room));
@@ -131,9 +131,9 @@ returns-in_err-flush-in-Ok-clause-stopped g c =
     let long : length c.read_some.new.piece ≡ c.loop.piece.len = omega arith in
     let same : c.deref.result.now ≡ c.read_some.new.piece = c.deref.ensures.value ∙ take_at c.read_some.new.piece _ c.loop.piece.len long in
     let piece : c.first_of.result.now ≡ take c.in-Ok.count c.read_some.new.piece = subst (λ (xs : List ℕ). c.first_of.result.now ≡ take c.in-Ok.count xs) same c.first_of.ensures in
-    let came = subst (Consumes rest left) (sym piece) read in
+    let came : Consumes rest left c.first_of.result.now = subst (Consumes rest left) (sym piece) read in
     err_is (StopsInput s v unread left before flushed) c.from_residual-in_err-flush-in-Ok.result c.in_err-flush-in-Ok.field-0.0 c.from_residual-in_err-flush-in-Ok.ensures.1
-    (piece_unflushed s v unread before met (desk_view c.serve.new.self) c.loop.lines c.serve.new.lines rest left after given flushed _ c.in_err-flush-in-Ok.field-0.0 so came c.in_ok-serve-in-Ok.ensures.serves c.flush.ensures.kept c.in_err-flush-in-Ok.ensures.failed)
+    (piece_unflushed s v unread before met (desk_view c.serve.new.self) c.loop.lines c.serve.new.lines rest left after given flushed c.first_of.result.now c.in_err-flush-in-Ok.field-0.0 so came c.in_ok-serve-in-Ok.ensures.serves c.flush.ensures.kept c.in_err-flush-in-Ok.ensures.failed)
 
 pub first_of-requires : goal.first_of-requires
 first_of-requires g c =
