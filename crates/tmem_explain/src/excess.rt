@@ -1,8 +1,9 @@
 //! What of a transaction is past a limit.
-ghost use Rattle.std.specs.Prelude.{◌≡◌, IfSome, true};
+ghost use Rattle.std.specs.Prelude.{◌≡◌, IfSome, Some, true};
+ghost use Rattle.std.specs.Fmt.{DisplaysOnOk};
 ghost use Rattle.std.specs.List.{Contains};
 ghost use Rattle.tmem_tree.specs.Limits.{is_no_register};
-ghost use Rattle.tmem_explain.specs.Excesses.{arguments_in, registers_in, step_in, variable_in};
+ghost use Rattle.tmem_explain.specs.Excesses.{arguments_in, excess_text, registers_in, step_in, variable_in};
 
 use std::fmt;
 use tmem_tree::{REGISTERS, Tx};
@@ -31,27 +32,34 @@ impl fmt::Display for Excess {
     ghost output = { λ excess. Some (excess_text excess) };
 
     fn fmt<W: fmt::Write>(&self, f: &mut fmt::Formatter<W>) -> fmt::Result {
-        match self {
-            Excess::Depth(n) => write!(f, "it is {n} deep, and may be 32 deep"),
-            Excess::Nodes(n) => write!(f, "it has {n} nodes, and may have 512"),
-            Excess::Writes(n) => write!(f, "it has {n} writes, and may have 64"),
-            Excess::Checks(n) => write!(f, "it has {n} checks, and may have 8"),
-            Excess::Retires(n) => write!(f, "it retires {n} names, and may retire 8"),
-            Excess::Register(reg) => { write!(f, "there is no register {reg}: they are 0 to 15") }
-            Excess::Variable { var, vars } => {
-                write!(
-                    f,
-                    "there is no variable {var}: the store has {vars}, from 0 on"
-                )
-            }
-            Excess::Step(index) => write!(f, "there is no step {index}: they are 0 to 2"),
-            Excess::Arguments(n) => write!(f, "this step takes 2 registers, and is given {n}"),
-            Excess::Name { vars } => write!(
-                f,
-                "there is no such invariant in a store of {vars} variables: from 1 on it has nonneg, from 2 on sum, from 4 on ordered"
+        let (before, n, behind) = match *self {
+            Excess::Depth(n) => ("it is ", n, " deep, and may be 32 deep"),
+            Excess::Nodes(n) => ("it has ", n, " nodes, and may have 512"),
+            Excess::Writes(n) => ("it has ", n, " writes, and may have 64"),
+            Excess::Checks(n) => ("it has ", n, " checks, and may have 8"),
+            Excess::Retires(n) => ("it retires ", n, " names, and may retire 8"),
+            Excess::Register(reg) => ("there is no register ", reg as u64, ": they are 0 to 15"),
+            Excess::Variable { var, vars } => return write_variable(f, var, vars),
+            Excess::Step(index) => ("there is no step ", index as u64, ": they are 0 to 2"),
+            Excess::Arguments(n) => ("this step takes 2 registers, and is given ", n, ""),
+            Excess::Name { vars } => (
+                "there is no such invariant in a store of ",
+                vars as u64,
+                " variables: from 1 on it has nonneg, from 2 on sum, from 4 on ordered",
             ),
-        }
+        };
+        write!(f, "{before}{n}{behind}")
     }
+}
+
+// What is told of a variable that a store of so many does not have.
+fn write_variable<W: fmt::Write>(f: &mut fmt::Formatter<W>, var: u16, vars: u16) -> fmt::Result
+    ensures { DisplaysOnOk W.write_str_gives f.old result (Some (excess_text (Excess.Variable var vars))) f.new }
+{
+    write!(
+        f,
+        "there is no variable {var}: the store has {vars}, from 0 on"
+    )
 }
 
 /// The variable that a node reads or writes.

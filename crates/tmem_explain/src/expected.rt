@@ -1,4 +1,8 @@
 //! What was expected where something is wrong.
+ghost use Rattle.std.specs.Prelude.{Some};
+ghost use Rattle.std.specs.Fmt.{DisplaysOnOk};
+ghost use Rattle.tmem_explain.specs.Told.{transaction_text};
+
 use crate::excess::Excess;
 use std::fmt;
 use tmem_requests::RequestFlaw;
@@ -42,39 +46,40 @@ impl fmt::Display for Expected {
     ghost output = { λ expected. Some (expected_text expected) };
 
     fn fmt<W: fmt::Write>(&self, f: &mut fmt::Formatter<W>) -> fmt::Result {
-        match self {
-            Expected::Json => f.write_str(
-                "from here on this is not JSON (which may nest 127 levels deep)",
-            ),
-            Expected::MoreJson => f.write_str("the text ends here, before its JSON does"),
-            Expected::Object => f.write_str(
-                "this is not an object with the keys vars, slots and events",
-            ),
-            Expected::Member(key) => write!(f, "there is no {key}"),
-            Expected::ScriptKeys => f.write_str(
-                "this has a key that is none of vars, slots and events",
-            ),
-            Expected::ScriptKey => { f.write_str("this key is none of vars, slots and events") }
-            Expected::Vars => f.write_str("a store has 1 to 1024 variables"),
-            Expected::Slots => f.write_str("a store has 2 to 64 log slots"),
-            Expected::Number => f.write_str("this is not a whole number from 0 to 65535"),
-            Expected::Entries => f.write_str("this is not an array of entries"),
-            Expected::Entry => f.write_str(
+        let text = match self {
+            Expected::Json => "from here on this is not JSON (which may nest 127 levels deep)",
+            Expected::MoreJson => "the text ends here, before its JSON does",
+            Expected::Object => "this is not an object with the keys vars, slots and events",
+            Expected::Member(key) => return write!(f, "there is no {key}"),
+            Expected::ScriptKeys => "this has a key that is none of vars, slots and events",
+            Expected::ScriptKey => "this key is none of vars, slots and events",
+            Expected::Vars => "a store has 1 to 1024 variables",
+            Expected::Slots => "a store has 2 to 64 log slots",
+            Expected::Number => "this is not a whole number from 0 to 65535",
+            Expected::Entries => "this is not an array of entries",
+            Expected::Entry =>
                 "this is none of \"flush\", \"checkpoint\", \"look\", \"reopen\" and \"show\", and no object with one of the keys begin, turn and settle alone",
-            ),
-            Expected::Begin => f.write_str("this is not an array of an attempt and a transaction"),
-            Expected::Attempt => f.write_str(
-                "this is not a whole number from 0 to 15, as an attempt is",
-            ),
-            Expected::Transaction(RequestFlaw::NotTransaction) => f.write_str(
-                "this is neither \"skip\" nor \"retry\", and no object with one of the keys seq, put, read, write, step, when, orelse, abort, check and retire alone",
-            ),
-            Expected::Transaction(RequestFlaw::NotStep) => f.write_str(
-                "this is none of the steps \"add\", \"sub\" and \"need\"",
-            ),
-            Expected::Transaction(why) => write!(f, "{why}"),
-            Expected::Plan { excess, .. } => write!(f, "{excess}"),
-            Expected::Script => f.write_str("this is not a script"),
-        }
+            Expected::Begin => "this is not an array of an attempt and a transaction",
+            Expected::Attempt => "this is not a whole number from 0 to 15, as an attempt is",
+            Expected::Transaction(why) => return write_transaction(f, *why),
+            Expected::Plan { excess, .. } => return write!(f, "{excess}"),
+            Expected::Script => "this is not a script",
+        };
+        f.write_str(text)
+    }
+}
+
+// What a transaction has there, or which words there may be.
+fn write_transaction<W: fmt::Write>(f: &mut fmt::Formatter<W>, why: RequestFlaw) -> fmt::Result
+    ensures { DisplaysOnOk W.write_str_gives f.old result (Some (transaction_text why)) f.new }
+{
+    match why {
+        RequestFlaw::NotTransaction => f.write_str(
+            "this is neither \"skip\" nor \"retry\", and no object with one of the keys seq, put, read, write, step, when, orelse, abort, check and retire alone",
+        ),
+        RequestFlaw::NotStep => f.write_str(
+            "this is none of the steps \"add\", \"sub\" and \"need\"",
+        ),
+        _ => write!(f, "{why}"),
     }
 }

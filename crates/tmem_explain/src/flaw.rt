@@ -1,4 +1,8 @@
 //! What is wrong with a script, and where.
+ghost use Rattle.std.specs.Prelude.{Some, flat_map};
+ghost use Rattle.std.specs.Fmt.{DisplaysOnOk};
+ghost use Rattle.tmem_requests.specs.Refusals.{step_text};
+
 use crate::expected::Expected;
 use std::fmt;
 use tmem_requests::PointerStep;
@@ -29,16 +33,21 @@ impl fmt::Display for Spot {
 
     fn fmt<W: fmt::Write>(&self, f: &mut fmt::Formatter<W>) -> fmt::Result {
         match self {
-            Spot::Pointer(steps) => {
-                for step in steps {
-                    write!(f, "{step}")?;
-                }
-                Ok(())
-            }
+            Spot::Pointer(steps) => write_steps(f, steps),
             Spot::Unknown(key) => write!(f, "/{key}"),
             Spot::Text { line, column } => write!(f, "line {line} column {column}"),
         }
     }
+}
+
+// The steps of a pointer, one behind the other.
+fn write_steps<W: fmt::Write>(f: &mut fmt::Formatter<W>, steps: &[PointerStep]) -> fmt::Result
+    ensures { DisplaysOnOk W.write_str_gives f.old result (Some (flat_map step_text steps.now)) f.new }
+{
+    for step in steps {
+        write!(f, "{step}")?;
+    }
+    Ok(())
 }
 
 impl Flaw {

@@ -99,6 +99,13 @@ fn note_all(alloc: Global, value: &Value, flaws: &mut Vec<Flaw>) -> Result<(), A
     note_keys(alloc, value, flaws)?;
     note(flaws, find_in_number(alloc, value, "vars"))?;
     note(flaws, find_in_number(alloc, value, "slots"))?;
+    note_events(alloc, value, flaws)
+}
+
+// Notes what is wrong with the entries of an object, or that it has none.
+fn note_events(alloc: Global, value: &Value, flaws: &mut Vec<Flaw>) -> Result<(), AllocError>
+    ensures { All (IsFlawOf (view value.now)) flaws.old.items → OnOk result (All (IsFlawOf (view value.now)) flaws.new.items) }
+{
     match value.get("events") {
         Some(events) => note_entries(alloc, value, events, flaws),
         None => note(flaws, Err(Amiss::here(alloc, Expected::Member("events")))),

@@ -298,26 +298,51 @@ fn cause_of_trying<R: Files<File = File> + AllocGlobal>(
     ) else {
         return Some(DeviceCause::Call(CallCause::Other));
     };
-    match File::create_new(rt, name.as_str()) {
-        Ok(file) => {
-            let filled = fill(&file, size);
-            let linked = fs::hard_link(rt, name.as_str(), link.as_str());
-            // What cannot be removed is left: nothing reads it.
-            let _ = fs::remove_file(rt, name.as_str());
-            if linked.is_ok() {
-                let _ = fs::remove_file(rt, link.as_str());
-            }
-            if filled.is_ok() && is_taken(&linked) {
-                return None;
-            }
-            Some(cause_of_made(filled, linked))
-        }
+    cause_of_names(rt, name.as_str(), link.as_str(), size)
+}
+
+// The same by these names.
+fn cause_of_names<R: Files<File = File>>(
+    rt: &R,
+    name: &str,
+    link: &str,
+    size: u64,
+) -> Option<DeviceCause>
+    ensures told { IfSome result (λ cause. may_be_told Wanted.Made cause ≡ true) }
+    ensures or_found { IfSome result (λ cause. may_be_told Wanted.FoundOrMade cause ≡ true) }
+{
+    match File::create_new(rt, name) {
+        Ok(file) => cause_of_file(rt, &file, name, link, size),
         Err(error) => match error.kind() {
             ErrorKind::AlreadyExists => None,
             ErrorKind::PermissionDenied => Some(DeviceCause::ClosedFolder),
             _ => Some(DeviceCause::Call(CallCause::of(error))),
         },
     }
+}
+
+// The same where the file of the first name was made. It is removed.
+fn cause_of_file<R: Files<File = File>>(
+    rt: &R,
+    file: &File,
+    name: &str,
+    link: &str,
+    size: u64,
+) -> Option<DeviceCause>
+    ensures told { IfSome result (λ cause. may_be_told Wanted.Made cause ≡ true) }
+    ensures or_found { IfSome result (λ cause. may_be_told Wanted.FoundOrMade cause ≡ true) }
+{
+    let filled = fill(file, size);
+    let linked = fs::hard_link(rt, name, link);
+    // What cannot be removed is left: nothing reads it.
+    let _ = fs::remove_file(rt, name);
+    if linked.is_ok() {
+        let _ = fs::remove_file(rt, link);
+    }
+    if filled.is_ok() && is_taken(&linked) {
+        return None;
+    }
+    Some(cause_of_made(filled, linked))
 }
 
 // Whether a link was not made because something has its name.

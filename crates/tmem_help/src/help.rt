@@ -1,7 +1,11 @@
 //! What a fault means, and what to do.
+ghost use Rattle.std.specs.Prelude.{◌++◌, Some, codes};
+ghost use Rattle.std.specs.Fmt.{DisplaysOnOk};
+ghost use Rattle.tmem_help.specs.Helps.{fault_help};
+
 use std::fmt;
 use tmem_answers::words_of;
-use tmem_fault::Fault;
+use tmem_fault::{Cause, Fault, Name};
 
 /// What went wrong, and what to do, in a line for a fault.
 #[derive(Clone, Copy)]
@@ -14,63 +18,60 @@ impl fmt::Display for FaultHelp {
     ghost output = { λ help. Some (fault_help help.0) };
 
     fn fmt<W: fmt::Write>(&self, f: &mut fmt::Formatter<W>) -> fmt::Result {
-        match &self.0 {
-            Fault::Memory => f.write_str(
+        let text = match &self.0 {
+            Fault::Memory =>
                 "memory did not suffice, or no thread could be started; give the program more (ulimit -v, ulimit -u), or ask for less",
-            ),
-            Fault::Device => write!(
-                f,
-                "a call on the file failed, or a sync of it failed before, and this process makes none any more; look at its rights, at room (df), at limits (ulimit -f, ulimit -n), whether it is read-only, and into the system's log (dmesg); then open the store again, and see what it has before anything is repeated; if the store fails again, end each program that uses it, copy it to a new file on another disk, and sync that; only if it was copied to its end, use that copy alone from then on"
-            ),
-            Fault::Closed => f.write_str(
+            Fault::Device =>
+                "a call on the file failed, or a sync of it failed before, and this process makes none any more; look at its rights, at room (df), at limits (ulimit -f, ulimit -n), whether it is read-only, and into the system's log (dmesg); then open the store again, and see what it has before anything is repeated; if the store fails again, end each program that uses it, copy it to a new file on another disk, and sync that; only if it was copied to its end, use that copy alone from then on",
+            Fault::Closed =>
                 "an earlier failure has closed the store: a call on its file failed, or it could not be opened again; mend that, open the store again, and see what it has before anything is repeated",
-            ),
-            Fault::Unknown => write!(
-                f,
-                "a write or sync failed; of a flush, all of the batch is durable, or none of it; a checkpoint puts no transaction in doubt; repeat nothing yet: open the store again, after an error of the disk (dmesg) once the machine was started anew, and see how many transactions there are; if writes fail again, look for room, also below the device (df, lvs), or end each program that uses the store, copy it to a new file on another disk, and sync that; only if it was copied to its end, use that copy alone from then on"
-            ),
-            Fault::Full => f.write_str(
-                "256 transactions wait to be durable; flush, and settle again",
-            ),
-            Fault::LogFull => f.write_str(
-                "every slot of the log is used; make a checkpoint, and flush again",
-            ),
-            Fault::Conflict => f.write_str(
-                "a value that the transaction read has changed; begin it again",
-            ),
-            Fault::NotFormatted => f.write_str(
+            Fault::Unknown =>
+                "a write or sync failed; of a flush, all of the batch is durable, or none of it; a checkpoint puts no transaction in doubt; repeat nothing yet: open the store again, after an error of the disk (dmesg) once the machine was started anew, and see how many transactions there are; if writes fail again, look for room, also below the device (df, lvs), or end each program that uses the store, copy it to a new file on another disk, and sync that; only if it was copied to its end, use that copy alone from then on",
+            Fault::Full => "256 transactions wait to be durable; flush, and settle again",
+            Fault::LogFull => "every slot of the log is used; make a checkpoint, and flush again",
+            Fault::Conflict => "a value that the transaction read has changed; begin it again",
+            Fault::NotFormatted =>
                 "this does not begin as a store; check the path; only if a store was there, move this away, and put a copy in its place (what the copy lacks is lost); only if there never was one, make one by tmem init",
-            ),
-            Fault::Damaged => f.write_str(
+            Fault::Damaged =>
                 "the file is not as tmem leaves one: something else changed it, or a later version of tmem wrote it; run that version, or else move the file away and put a copy in its place (tmem does not repair it, and what the copy lacks is lost)",
-            ),
-            Fault::Missing(name) => write!(
+            Fault::Missing(name) => return write_named(
                 f,
-                "the invariant {name} is registered in the store, and this program or shape has none of this name; check the paths of the store and of the shape or script; if they are the ones, open the store with the program or shape that used it last, as that was then; only if that had none of this name, too, something changed the file: move it away, and put a copy in its place (what the copy lacks is lost)"
+                name,
+                " is registered in the store, and this program or shape has none of this name; check the paths of the store and of the shape or script; if they are the ones, open the store with the program or shape that used it last, as that was then; only if that had none of this name, too, something changed the file: move it away, and put a copy in its place (what the copy lacks is lost)",
             ),
-            Fault::Broken(name) => write!(
+            Fault::Broken(name) => return write_named(
                 f,
-                "the invariant {name} is registered in the store, and as this program or shape means it, it is false of the store's values; check the paths of the store and of the shape or script; if they are the ones, compare what it means here with what it meant in the program or shape that used the store last, as that was then; if that differs, open the store with that one; only if not, something changed the file: move it away, and put a copy in its place (what the copy lacks is lost)"
+                name,
+                " is registered in the store, and as this program or shape means it, it is false of the store's values; check the paths of the store and of the shape or script; if they are the ones, compare what it means here with what it meant in the program or shape that used the store last, as that was then; if that differs, open the store with that one; only if not, something changed the file: move it away, and put a copy in its place (what the copy lacks is lost)",
             ),
-            Fault::BadPlan(cause) => write!(f, "{}; change the transaction", words_of(*cause)),
-            Fault::BadName => f.write_str(
+            Fault::BadPlan(cause) => return write_cause(f, *cause),
+            Fault::BadName =>
                 "a name is not 1 to 16 letters from a to z, or stands twice, or there are more than 64; change the program",
-            ),
-            Fault::BadFootprint => f.write_str(
+            Fault::BadFootprint =>
                 "an invariant is over no variable, over more than 16, over one twice, or over one that the store lacks (they count from 0); correct that invariant",
-            ),
-            Fault::Spent => f.write_str(
+            Fault::Spent =>
                 "the count of transactions or of images is at 2^64 - 1, to which no use comes, so something changed the file; see what it has (tmem show PATH); then move it away, and put a copy in its place (what the copy lacks is lost)",
-            ),
-            Fault::NoSeat => f.write_str(
+            Fault::NoSeat =>
                 "all 32 passes were given out, and one that was dropped is lost until the store is opened again; keep passes, or share them: acquire_pass lends one, and release_pass hands it back",
-            ),
-            Fault::Geometry => write!(
-                f,
-                "the numbers of variables and log slots that were asked for are out of limits (1 to 1024, 2 to 64) or not the store's own, or its file was cut off; check the paths; use the shape or script that the store was made with (tmem show PATH prints the store's numbers); if these are the same, move the file away, and put a copy in its place (what the copy lacks is lost)"
-            ),
-        }
+            Fault::Geometry =>
+                "the numbers of variables and log slots that were asked for are out of limits (1 to 1024, 2 to 64) or not the store's own, or its file was cut off; check the paths; use the shape or script that the store was made with (tmem show PATH prints the store's numbers); if these are the same, move the file away, and put a copy in its place (what the copy lacks is lost)",
+        };
+        f.write_str(text)
     }
+}
+
+// What is told of the invariant of a name.
+fn write_named<W: fmt::Write>(f: &mut fmt::Formatter<W>, name: &Name, rest: &str) -> fmt::Result
+    ensures { DisplaysOnOk W.write_str_gives f.old result (Some (codes "the invariant " ++ (name.now ++ rest.now))) f.new }
+{
+    write!(f, "the invariant {name}{rest}")
+}
+
+// What is told of a transaction that breaks the limit of this cause.
+fn write_cause<W: fmt::Write>(f: &mut fmt::Formatter<W>, cause: Cause) -> fmt::Result
+    ensures { DisplaysOnOk W.write_str_gives f.old result (Some (fault_help (Fault.BadPlan cause))) f.new }
+{
+    write!(f, "{}; change the transaction", words_of(cause))
 }
 
 /// What to do where an opening refuses the bytes of a store by a fault, in a line for it.

@@ -33,29 +33,40 @@ first_alone (e ∷ []) k b first one =
     ap (λ (f : String Global × Value). object (members_view (f ∷ []))) same
 first_alone (e ∷ f ∷ es) k b first one = absurd (omega arith)
 
--- the value of an object whose members were taken out one by one
-pub view_of_members : (v : Value) (m : BTreeMap (String Global) Value) (rest behind left : Members) (events slots vars : Data) → v ≡ Object m
-    → members_view m.entries ≡ member (codes "events") events rest → rest ≡ member (codes "slots") slots behind → behind ≡ member (codes "vars") vars left
-    → view v ≡ object (member (codes "events") events (member (codes "slots") slots (member (codes "vars") vars left)))
-view_of_members v m rest behind left events slots vars is first second third =
-    ap view is ∙ view-Object m ∙ ap object (first ∙ ap (member (codes "events") events) (second ∙ ap (member (codes "slots") slots) third))
-
-none_left : (es : Entries) → length es ≡ 0 → members_view es ≡ no_members
+pub none_left : (es : Entries) → length es ≡ 0 → members_view es ≡ no_members
 none_left [] none = refl
 none_left (e ∷ es) none = absurd (omega arith)
 
-some_left : (es : Entries) → ¬ (length es ≡ 0) → ¬ (members_view es ≡ no_members)
+pub some_left : (es : Entries) → ¬ (length es ≡ 0) → ¬ (members_view es ≡ no_members)
 some_left [] some none = some refl
 some_left (e ∷ es) some none = cc
 
-pub no_script_with_more : (d events slots vars : Data) (es : Entries) → d ≡ object (member (codes "events") events (member (codes "slots") slots (member (codes "vars") vars (members_view es)))) → ¬ (length es ≡ 0)
-    → (n m : ℕ) (entries : List ScriptEntry) → ¬ IsScript n m entries d
-no_script_with_more d events slots vars es found more n m entries is =
-    let same = sym found ∙ is.form in
-    some_left es more cc
+-- the value of an object with three members is the form of a script only if they are
+pub no_script_of_three : (v : Value) (m : BTreeMap (String Global) Value) → v ≡ Object m
+    → ((events slots vars : Data) → ¬ (members_view m.entries ≡ member (codes "events") events (member (codes "slots") slots (member (codes "vars") vars no_members))))
+    → (n k : ℕ) (entries : List ScriptEntry) → ¬ IsScript n k entries (view v)
+no_script_of_three v m is none n k entries script =
+    let same : object (members_view m.entries) ≡ object (member (codes "events") (array_of (map entry_form entries)) (member (codes "slots") (natural k) (member (codes "vars") (natural n) no_members)))
+    = sym (ap view is ∙ view-Object m) ∙ script.form in
+    none (array_of (map entry_form entries)) (natural k) (natural n) cc
 
-pub script_found : (d events slots vars : Data) (es : Entries) (n m : ℕ) (entries : List ScriptEntry) → d ≡ object (member (codes "events") events (member (codes "slots") slots (member (codes "vars") vars (members_view es)))) → length es ≡ 0
-    → events ≡ array_of (map entry_form entries) → slots ≡ natural m → vars ≡ natural n → IsShort n → IsShort m → All EntryInRange entries → IsScript n m entries d
-script_found d events slots vars es n m entries found none first second third vars_fit slots_fit in_range =
-    let left : members_view es ≡ no_members = none_left es none in
-    record { form = found ∙ rw (first, second, third, left) refl; vars_fit = vars_fit; slots_fit = slots_fit; in_range = in_range }
+pub script_of_three : (v : Value) (m : BTreeMap (String Global) Value) (events slots vars : Data) (n k : ℕ) (entries : List ScriptEntry) → v ≡ Object m
+    → members_view m.entries ≡ member (codes "events") events (member (codes "slots") slots (member (codes "vars") vars no_members))
+    → events ≡ array_of (map entry_form entries) → slots ≡ natural k → vars ≡ natural n → IsShort n → IsShort k → All EntryInRange entries → IsScript n k entries (view v)
+script_of_three v m events slots vars n k entries is found first second third vars_fit slots_fit in_range =
+    record { form = ap view is ∙ view-Object m ∙ ap object found ∙ rw (first, second, third) refl; vars_fit = vars_fit; slots_fit = slots_fit; in_range = in_range }
+
+-- what the members of a script are
+pub record AreOf (n k : ℕ) (entries : List ScriptEntry) (events slots vars : Data) : Type 0 where
+  pub events_of : events ≡ array_of (map entry_form entries)
+  pub slots_of : slots ≡ natural k
+  pub vars_of : vars ≡ natural n
+
+pub members_of_script : (v : Value) (m : BTreeMap (String Global) Value) (events slots vars : Data) → v ≡ Object m
+    → members_view m.entries ≡ member (codes "events") events (member (codes "slots") slots (member (codes "vars") vars no_members))
+    → (n k : ℕ) (entries : List ScriptEntry) → IsScript n k entries (view v) → AreOf n k entries events slots vars
+members_of_script v m events slots vars is found n k entries script =
+    let same : object (member (codes "events") events (member (codes "slots") slots (member (codes "vars") vars no_members)))
+    ≡ object (member (codes "events") (array_of (map entry_form entries)) (member (codes "slots") (natural k) (member (codes "vars") (natural n) no_members)))
+    = ap object (sym found) ∙ sym (ap view is ∙ view-Object m) ∙ script.form in
+    record { events_of = cc; slots_of = cc; vars_of = cc }

@@ -15,15 +15,15 @@ impl fmt::Display for ReplyLine {
 
     fn fmt<W: fmt::Write>(&self, f: &mut fmt::Formatter<W>) -> fmt::Result {
         match &self.0 {
-            Reply::Begun => write!(f, "begun"),
+            Reply::Begun => f.write_str("begun"),
             Reply::Read { var, value } => write!(f, "read {var} {value}"),
             Reply::Probed { name, held: true } => write!(f, "probe {name} yes"),
             Reply::Probed { name, held: false } => write!(f, "probe {name} no"),
-            Reply::Ended => write!(f, "ended"),
-            Reply::Idle => write!(f, "idle"),
+            Reply::Ended => f.write_str("ended"),
+            Reply::Idle => f.write_str("idle"),
             Reply::Settled(settled) => write_settled(f, settled),
             Reply::Durable(number) => write!(f, "durable {number}"),
-            Reply::Checkpointed => write!(f, "checkpointed"),
+            Reply::Checkpointed => f.write_str("checkpointed"),
             Reply::Looked(number) => write!(f, "look {number}"),
             Reply::Opened(count) => write!(f, "opened {count}"),
             Reply::Fault(fault) => write!(f, "{fault}"),

@@ -1,6 +1,6 @@
 //! Scripts: the numbers of a device, and what is to be done on it.
-ghost use Rattle.std.specs.Prelude.{◌≡◌, IfOk, IfErr};
-ghost use Rattle.serde_json.specs.Data.{Data, Members, member};
+ghost use Rattle.std.specs.Prelude.{◌≡◌, IfOk, IfErr, codes};
+ghost use Rattle.serde_json.specs.Data.{Data, Members, member, no_members};
 ghost use Rattle.serde_json.specs.View.{view, members_view};
 ghost use Rattle.tmem_event.specs.Events.{NamesAttempt};
 ghost use Rattle.tmem_forms.specs.Errors.{Refuses};
@@ -138,15 +138,10 @@ impl Script {
         ensures refused { IfErr result (λ e. Refuses e ((vars slots : ℕ) (entries : List ScriptEntry)
             → ¬ IsScript vars slots entries (view value))) }
     {
-        let Value::Object(mut members) = value else {
+        let Value::Object(members) = value else {
             return Err(FormError::NoForm);
         };
-        let events = next_of(&mut members, "events")?;
-        let slots = next_of(&mut members, "slots")?;
-        let vars = next_of(&mut members, "vars")?;
-        if members.len() != 0 {
-            return Err(FormError::NoForm);
-        }
+        let (vars, slots, events) = three_of(members)?;
         let vars = short_of(&vars)?;
         let slots = short_of(&slots)?;
         let entries = entries_of(alloc, events)?;
@@ -156,6 +151,22 @@ impl Script {
             entries,
         })
     }
+}
+
+// The values of an object's members, which have to be these three.
+fn three_of(mut members: Map<String, Value>) -> Result<(Value, Value, Value), FormError>
+    ensures ok { IfOk result (λ three. members_view members.entries
+        ≡ member (codes "events") (view three.2) (member (codes "slots") (view three.1) (member (codes "vars") (view three.0) no_members))) }
+    ensures refused { IfErr result (λ e. Refuses e ((events slots vars : Data) → ¬ (members_view members.entries
+        ≡ member (codes "events") events (member (codes "slots") slots (member (codes "vars") vars no_members))))) }
+{
+    let events = next_of(&mut members, "events")?;
+    let slots = next_of(&mut members, "slots")?;
+    let vars = next_of(&mut members, "vars")?;
+    if members.len() != 0 {
+        return Err(FormError::NoForm);
+    }
+    Ok((vars, slots, events))
 }
 
 // Takes the first of an object's members, which stand in the order of their keys, out of it. It has to have this key.

@@ -53,29 +53,40 @@ impl fmt::Display for ShapePlace {
             ShapePlace::Whole => Ok(()),
             ShapePlace::Member(key) => write!(f, "/{}", key.as_str()),
             ShapePlace::Unknown(key) => write_step(f, key.as_str()),
-            ShapePlace::Invariant(i) => write!(f, "/invariants/{i}"),
-            ShapePlace::InvariantMember(i, key) => write!(f, "/invariants/{i}/{}", key.as_str()),
-            ShapePlace::InvariantUnknown(i, key) => {
-                write!(f, "/invariants/{i}")?;
-                write_step(f, key.as_str())
-            }
-            ShapePlace::Term(i, term) => write!(f, "/invariants/{i}/sum/{term}"),
-            ShapePlace::TermItem(i, term, item) => write!(f, "/invariants/{i}/sum/{term}/{item}"),
             ShapePlace::Name(name) => {
-                write!(f, "/names")?;
+                f.write_str("/names")?;
                 write_step(f, name.as_str())
             }
+            _ => write_in_invariants(f, self),
         }
+    }
+}
+
+// A place in the invariants.
+fn write_in_invariants<W: fmt::Write>(
+    f: &mut fmt::Formatter<W>,
+    place: &ShapePlace,
+) -> fmt::Result {
+    match place {
+        ShapePlace::Invariant(i) => write!(f, "/invariants/{i}"),
+        ShapePlace::InvariantMember(i, key) => write!(f, "/invariants/{i}/{}", key.as_str()),
+        ShapePlace::InvariantUnknown(i, key) => {
+            write!(f, "/invariants/{i}")?;
+            write_step(f, key.as_str())
+        }
+        ShapePlace::Term(i, term) => write!(f, "/invariants/{i}/sum/{term}"),
+        ShapePlace::TermItem(i, term, item) => write!(f, "/invariants/{i}/sum/{term}/{item}"),
+        _ => Ok(()),
     }
 }
 
 // A step of a pointer to a key: a `~` in it is written `~0`, and a `/` `~1`.
 fn write_step<W: fmt::Write>(f: &mut fmt::Formatter<W>, key: &str) -> fmt::Result {
-    write!(f, "/")?;
+    f.write_str("/")?;
     for letter in key.chars() {
         match letter {
-            '~' => write!(f, "~0")?,
-            '/' => write!(f, "~1")?,
+            '~' => f.write_str("~0")?,
+            '/' => f.write_str("~1")?,
             _ => write!(f, "{letter}")?,
         }
     }
