@@ -174,13 +174,7 @@ fn tell_there<E: Write>(
     }
     if is_damaged(rt, asked) {
         tell_block(rt, asked, err)?;
-        return tell_refused(
-            rt,
-            asked,
-            &Notes::new(rt.alloc(), false),
-            Fault::Damaged,
-            err,
-        );
+        return tell_fault_of_store(rt, asked, Fault::Damaged, err);
     }
     if is_in_place {
         tell_of_bytes(rt, asked, NOT_BLANK, err)
@@ -646,22 +640,34 @@ fn explain_entries<E: Write>(
     err: &mut E,
 ) -> io::Result<()> {
     let path = store_of(asked).map(|found| found.0);
-    if notes
-        .refused()
-        .iter()
-        .any(|refused| refuses_bytes(refused.fault))
-    {
+    if refuses_bytes_of_any(notes) {
         tell_block(rt, asked, err)?;
     }
     for refused in notes.refused() {
         explain_entry(rt, asked, path, notes.text(), refused, err)?;
     }
-    if let (Some(path), [_, ..]) = (path, notes.refused()) {
+    match path {
+        Some(path) => tell_left(notes, path, err),
+        None => Ok(()),
+    }
+}
+
+// Whether the fault of an entry may refuse the bytes of a store.
+fn refuses_bytes_of_any(notes: &Notes) -> bool {
+    notes
+        .refused()
+        .iter()
+        .any(|refused| refuses_bytes(refused.fault))
+}
+
+// Tells of a run in a file that the other entries were played, where some were refused, and what it left that is not durable.
+fn tell_left<E: Write>(notes: &Notes, path: &str, err: &mut E) -> io::Result<()> {
+    if !notes.refused().is_empty() {
         tell_path(err, path, PLAYED)?;
     }
-    match (path, notes.lost()) {
-        (Some(path), Some(lost)) => tell_path(err, path, lost),
-        (_, _) => Ok(()),
+    match notes.lost() {
+        Some(lost) => tell_path(err, path, lost),
+        None => Ok(()),
     }
 }
 

@@ -120,16 +120,17 @@ pub(crate) fn has_no_bytes(rt: &(impl Files<File = File> + AllocGlobal), asked: 
 
 /// The path of the store, and what was to have it.
 pub(crate) fn store_of<'a>(asked: Asked<'a>) -> Option<(&'a str, Wanted)> {
-    match asked {
-        Asked::Run(paths) => Some((paths.disk?, Wanted::FoundOrMade)),
-        Asked::Threads(counting) => Some((counting.disk?, Wanted::Made)),
-        Asked::Bench(timing) => Some((timing.disk.unwrap_or(JOBS_STORE), Wanted::Made)),
-        Asked::Show(showing) => Some((showing.store?, Wanted::Read)),
-        Asked::Init(making) if making.is_in_place => Some((making.store?, Wanted::Found)),
-        Asked::Init(making) => Some((making.store?, Wanted::FoundOrMade)),
-        Asked::Serve(serving) => Some((serving.store?, Wanted::Found)),
-        Asked::Check(_) => None,
-    }
+    let (path, wanted) = match asked {
+        Asked::Run(paths) => (paths.disk, Wanted::FoundOrMade),
+        Asked::Threads(counting) => (counting.disk, Wanted::Made),
+        Asked::Bench(timing) => (Some(timing.disk.unwrap_or(JOBS_STORE)), Wanted::Made),
+        Asked::Show(showing) => (showing.store, Wanted::Read),
+        Asked::Init(making) if making.is_in_place => (making.store, Wanted::Found),
+        Asked::Init(making) => (making.store, Wanted::FoundOrMade),
+        Asked::Serve(serving) => (serving.store, Wanted::Found),
+        Asked::Check(_) => return None,
+    };
+    Some((path?, wanted))
 }
 
 /// The path of the shape beside a store.
