@@ -1,12 +1,13 @@
-use Rattle.std.proofs.Common.{◌≡◌, Some, sym, subst, rules}
-use Rattle.tmem_disk.specs.Disk.{SameDevice}
+use Rattle.std.proofs.Common.{◌≡◌, length, Some, sym, ◌∙◌, ap, subst}
+use Rattle.tmem_disk.specs.Disk.{LeavesOnly, SameDevice}
 use Rattle.tmem_fault.specs.declared.fault.Fault.TheVariants as fault
 use Rattle.tmem_effect.specs.State.{State}
 use Rattle.tmem_invariants.specs.Meanings.{IsSound}
 use Rattle.tmem_core.specs.Opening.{opening_fault}
 use Rattle.tmem_core.specs.Program.{IsProgramOf}
+use Rattle.tmem_journal.specs.Contents.{ContentRepresents}
 use Rattle.tmem_journal.specs.Held as journal
-use Rattle.tmem_opening.specs.Opening.{OpeningRefused}
+use Rattle.tmem_opening.specs.Opening.{FindsState, OpeningRefused}
 use Rattle.tmem_opening.proofs.Laws.{given_up}
 use Rattle.tmem_opening.proofs.Refusals.{mending, same, journal_refused, core_refused, only_memory}
 use Rattle.tmem_opening.proofs.opening.Opening.open.Goals as goal
@@ -22,15 +23,23 @@ returns-in-Err-clause-refused g c =
 
 pub returns-in-Ok-made-clause-opened : goal.returns-in-Ok-made-clause-opened
 returns-in-Ok-made-clause-opened g c =
-    let opened = c.in-Ok.ensures in record {
-      found = search rules;
-      sound = search rules;
-      leaves = search rules;
-      values = search rules;
-      fits = search rules;
-      holds = search rules;
-      uses = search rules;
-      mends = mending c.args.vars c.args.slots (g.D.Disk.view c.args.disk) (journal.journal_device c.in-Ok.journal) (g.met.D.Disk.is_device (journal.disk_of c.in-Ok.journal)) opened.recovers opened.mends;
+    let j = c.in-Ok.journal in
+    let opened = c.in-Ok.ensures in
+    let made = c.in-Ok-new.ensures in
+    let old = g.D.Disk.view c.args.disk in
+    let new = journal.journal_device j in
+    let at = journal.journal_position j in
+    let copied = ap (λ v. v.state) made.view in
+    let same = copied ∙ c.state.ensures in
+    record {
+      found = λ k. subst (λ (s : State). FindsState c.args.vars c.args.slots old new at s) (sym same) (record { was = opened.found k; stands = opened.stands k });
+      sound = λ m stated. subst (λ (s : State). IsSound m (g.T.Invariants.names c.args.table) s.names s.values) (sym copied) (made.sound m stated);
+      leaves = subst (λ (s : State). LeavesOnly new (ContentRepresents c.args.vars c.args.slots at s)) (sym same) (rw (opened.fits.0, opened.fits.1) at (j.sure opened.fresh.0));
+      values = ap (λ (s : State). length s.values) same ∙ j.sized ∙ opened.fits.0;
+      fits = opened.fits;
+      holds = ap (λ v. v.table) made.view;
+      uses = opened.uses;
+      mends = mending c.args.vars c.args.slots old new (g.met.D.Disk.is_device (journal.disk_of j)) opened.recovers opened.mends;
     }
 
 pub returns-in-Err-made-clause-refused : goal.returns-in-Err-made-clause-refused
