@@ -1,8 +1,9 @@
-use Rattle.std.proofs.Common.{◌≡◌, length, Some, sym, ◌∙◌, ap, subst}
+use Rattle.std.proofs.Common.{◌≡◌, ℕ, length, Some, sym, ◌∙◌, ap, subst}
 use Rattle.tmem_disk.specs.Disk.{LeavesOnly, SameDevice}
 use Rattle.tmem_fault.specs.declared.fault.Fault.TheVariants as fault
 use Rattle.tmem_effect.specs.State.{State}
 use Rattle.tmem_invariants.specs.Meanings.{IsSound}
+use Rattle.tmem_tree.specs.Shapes.{AreWithin}
 use Rattle.tmem_core.specs.Opening.{opening_fault}
 use Rattle.tmem_core.specs.Program.{IsProgramOf}
 use Rattle.tmem_journal.specs.Contents.{ContentRepresents}
@@ -80,3 +81,25 @@ returns-in-Err-new-clause-recovers g c = λ p a b are sound_a sound_b fits left 
     (λ no. subst (λ (x : State). ¬ IsSound p.tests p.names x.names x.values) c.state.ensures
     (subst (λ ns. ¬ IsSound p.tests ns c.state.result.now.names c.state.result.now.values) (sym are.names) (so.unsound p.tests are.tests no)))
     either sound_a sound_b
+
+pub invariant_of-result : goal.invariant_of-result
+invariant_of-result g c =
+    let j = c.in-Ok.journal in
+    let opened = c.in-Ok.ensures in
+    let view = c.in-Ok-new.ensures.view in
+    let made = c.in-Ok-made.ensures in
+    let copied = ap (λ v. v.state) view in
+    let table = ap (λ v. v.table) view in
+    let same = copied ∙ c.state.ensures in
+    let values = ap (λ (s : State). length s.values) same ∙ j.sized ∙ opened.fits.0 ∙ sym c.requires in
+    record {
+      found = same;
+      waits = ap (λ v. v.waiting) view;
+      known = ap (λ v. v.durable) view ∙ sym (ap (λ (s : State). s.count) copied);
+      running = ap (λ v. v.is_shut) view;
+      «open» = opened.fresh.0;
+      sure = opened.fresh.1;
+      named = made.named ∙ sym (ap (λ t. g.T.Invariants.names t) table);
+      meant = λ m stated. made.meant m (subst (λ t. g.T.Invariants.is_stated t m) table stated);
+      within = subst (λ (n : ℕ). AreWithin n c.in-Ok-made.shapes.items) (sym values) made.within;
+    }
