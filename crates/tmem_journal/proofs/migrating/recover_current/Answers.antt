@@ -1,4 +1,5 @@
 use Rattle.std.proofs.lemmas.Grind.{moves}
+use Rattle.std.proofs.lemmas.Result.{err_from_is_err_and}
 use Rattle.std.proofs.Common.{◌≡◌, ⊎_elim, ◌≤◌, ℕ, length, sym, ◌∙◌, ap, subst, arith}
 use Rattle.std.specs.Prelude.{MatchResult}
 use Rattle.tmem_disk.proofs.Laws.{LeavesOnly-synced}
@@ -98,25 +99,25 @@ returns-clause-sized g c =
     c.migrate.result c.migrate.ensures.state c.migrate.ensures.few
 
 pub returns-in_err-found-clause-found : goal.returns-in_err-found-clause-found
-returns-in_err-found-clause-found g c = grind (arith, moves)
+returns-in_err-found-clause-found g c = rw (err_from_is_err_and c.from_residual.result c.from_residual.ensures.1).1 (λ _. tt)
 
 pub returns-in_err-found-clause-number : goal.returns-in_err-found-clause-number
-returns-in_err-found-clause-number g c = grind (arith, moves)
+returns-in_err-found-clause-number g c = rw (err_from_is_err_and c.from_residual.result c.from_residual.ensures.1).1 tt
 
 pub returns-in_err-found-clause-one : goal.returns-in_err-found-clause-one
-returns-in_err-found-clause-one g c = grind (arith, moves)
+returns-in_err-found-clause-one g c = rw (err_from_is_err_and c.from_residual.result c.from_residual.ensures.1).1 tt
 
 pub returns-in_err-found-clause-sized : goal.returns-in_err-found-clause-sized
-returns-in_err-found-clause-sized g c = grind (arith, moves)
+returns-in_err-found-clause-sized g c = rw (err_from_is_err_and c.from_residual.result c.from_residual.ensures.1).1 tt
 
 pub returns-in_err-found-clause-synced : goal.returns-in_err-found-clause-synced
-returns-in_err-found-clause-synced g c = grind (arith, moves)
+returns-in_err-found-clause-synced g c = rw (err_from_is_err_and c.from_residual.result c.from_residual.ensures.1).1 tt
 
 pub returns-in_err-found-clause-closed : goal.returns-in_err-found-clause-closed
-returns-in_err-found-clause-closed g c = grind (arith, moves)
+returns-in_err-found-clause-closed g c = rw (err_from_is_err_and c.from_residual.result c.from_residual.ensures.1).1 tt
 
 pub returns-in_err-found-clause-sure : goal.returns-in_err-found-clause-sure
-returns-in_err-found-clause-sure g c = grind (arith, moves)
+returns-in_err-found-clause-sure g c = rw (err_from_is_err_and c.from_residual.result c.from_residual.ensures.1).1 tt
 
 pub returns-in_err-found-clause-uses : goal.returns-in_err-found-clause-uses
 returns-in_err-found-clause-uses g c = grind (arith, moves)

@@ -117,55 +117,55 @@ returns-clause-found g c = λ k.
     c.in_ok-block.block _ c.in_ok-log.log (c.may_follow.ensures.0 c.if-not-may_follow.false) c.in_ok-copy.ensures.one c.in_ok-log.ensures.generation (c.in_ok-block.ensures.found m2) (c.in_ok-copy.ensures.found m3) (c.in_ok-version.ensures.found m4) (c.in_ok-log.ensures.found k) ∣₁
 
 pub returns-in_err-log-clause-found : goal.returns-in_err-log-clause-found
-returns-in_err-log-clause-found g c = grind (arith, moves)
+returns-in_err-log-clause-found g c = rw (err_from_is_err_and c.from_residual-in_err-log.result c.from_residual-in_err-log.ensures.1).1 (λ _. tt)
 
 pub returns-in_err-sync-clause-found : goal.returns-in_err-sync-clause-found
-returns-in_err-sync-clause-found g c = grind (arith, moves)
+returns-in_err-sync-clause-found g c = rw (err_from_is_err_and c.from_residual.result c.from_residual.ensures.1).1 (λ _. tt)
 
 pub returns-in_err-sync-clause-number : goal.returns-in_err-sync-clause-number
-returns-in_err-sync-clause-number g c = grind (arith, moves)
+returns-in_err-sync-clause-number g c = rw (err_from_is_err_and c.from_residual.result c.from_residual.ensures.1).1 tt
 
 pub returns-in_err-sync-clause-one : goal.returns-in_err-sync-clause-one
-returns-in_err-sync-clause-one g c = grind (arith, moves)
+returns-in_err-sync-clause-one g c = rw (err_from_is_err_and c.from_residual.result c.from_residual.ensures.1).1 tt
 
 pub returns-in_err-sync-clause-sized : goal.returns-in_err-sync-clause-sized
-returns-in_err-sync-clause-sized g c = grind (arith, moves)
+returns-in_err-sync-clause-sized g c = rw (err_from_is_err_and c.from_residual.result c.from_residual.ensures.1).1 tt
 
 pub returns-in_err-sync-clause-synced : goal.returns-in_err-sync-clause-synced
-returns-in_err-sync-clause-synced g c = grind (arith, moves)
+returns-in_err-sync-clause-synced g c = rw (err_from_is_err_and c.from_residual.result c.from_residual.ensures.1).1 tt
 
 pub returns-in_err-block-clause-found : goal.returns-in_err-block-clause-found
-returns-in_err-block-clause-found g c = grind (arith, moves)
+returns-in_err-block-clause-found g c = rw (err_from_is_err_and c.from_residual-in_err-block.result c.from_residual-in_err-block.ensures.1).1 (λ _. tt)
 
 pub returns-in_err-block-clause-number : goal.returns-in_err-block-clause-number
-returns-in_err-block-clause-number g c = grind (arith, moves)
+returns-in_err-block-clause-number g c = rw (err_from_is_err_and c.from_residual-in_err-block.result c.from_residual-in_err-block.ensures.1).1 tt
 
 pub returns-in_err-block-clause-one : goal.returns-in_err-block-clause-one
-returns-in_err-block-clause-one g c = grind (arith, moves)
+returns-in_err-block-clause-one g c = rw (err_from_is_err_and c.from_residual-in_err-block.result c.from_residual-in_err-block.ensures.1).1 tt
 
 pub returns-in_err-block-clause-sized : goal.returns-in_err-block-clause-sized
-returns-in_err-block-clause-sized g c = grind (arith, moves)
+returns-in_err-block-clause-sized g c = rw (err_from_is_err_and c.from_residual-in_err-block.result c.from_residual-in_err-block.ensures.1).1 tt
 
 pub returns-in_err-block-clause-synced : goal.returns-in_err-block-clause-synced
-returns-in_err-block-clause-synced g c = grind (arith, moves)
+returns-in_err-block-clause-synced g c = rw (err_from_is_err_and c.from_residual-in_err-block.result c.from_residual-in_err-block.ensures.1).1 tt
 
 pub returns-in_err-block-clause-uses : goal.returns-in_err-block-clause-uses
 returns-in_err-block-clause-uses g c = grind (arith, moves)
 
 pub returns-in_err-copy-clause-found : goal.returns-in_err-copy-clause-found
-returns-in_err-copy-clause-found g c = grind (arith, moves)
+returns-in_err-copy-clause-found g c = rw (err_from_is_err_and c.from_residual-in_err-copy.result c.from_residual-in_err-copy.ensures.1).1 (λ _. tt)
 
 pub returns-in_err-copy-clause-number : goal.returns-in_err-copy-clause-number
-returns-in_err-copy-clause-number g c = grind (arith, moves)
+returns-in_err-copy-clause-number g c = rw (err_from_is_err_and c.from_residual-in_err-copy.result c.from_residual-in_err-copy.ensures.1).1 tt
 
 pub returns-in_err-copy-clause-one : goal.returns-in_err-copy-clause-one
-returns-in_err-copy-clause-one g c = grind (arith, moves)
+returns-in_err-copy-clause-one g c = rw (err_from_is_err_and c.from_residual-in_err-copy.result c.from_residual-in_err-copy.ensures.1).1 tt
 
 pub returns-in_err-copy-clause-sized : goal.returns-in_err-copy-clause-sized
-returns-in_err-copy-clause-sized g c = grind (arith, moves)
+returns-in_err-copy-clause-sized g c = rw (err_from_is_err_and c.from_residual-in_err-copy.result c.from_residual-in_err-copy.ensures.1).1 tt
 
 pub returns-in_err-copy-clause-synced : goal.returns-in_err-copy-clause-synced
-returns-in_err-copy-clause-synced g c = grind (arith, moves)
+returns-in_err-copy-clause-synced g c = rw (err_from_is_err_and c.from_residual-in_err-copy.result c.from_residual-in_err-copy.ensures.1).1 tt
 
 pub returns-in_err-copy-clause-uses : goal.returns-in_err-copy-clause-uses
 returns-in_err-copy-clause-uses g c =
@@ -177,19 +177,19 @@ returns-in_err-copy-clause-uses g c =
     })
 
 pub returns-in_err-version-clause-found : goal.returns-in_err-version-clause-found
-returns-in_err-version-clause-found g c = grind (arith, moves)
+returns-in_err-version-clause-found g c = rw (err_from_is_err_and c.from_residual-in_err-version.result c.from_residual-in_err-version.ensures.1).1 (λ _. tt)
 
 pub returns-in_err-version-clause-number : goal.returns-in_err-version-clause-number
-returns-in_err-version-clause-number g c = grind (arith, moves)
+returns-in_err-version-clause-number g c = rw (err_from_is_err_and c.from_residual-in_err-version.result c.from_residual-in_err-version.ensures.1).1 tt
 
 pub returns-in_err-version-clause-one : goal.returns-in_err-version-clause-one
-returns-in_err-version-clause-one g c = grind (arith, moves)
+returns-in_err-version-clause-one g c = rw (err_from_is_err_and c.from_residual-in_err-version.result c.from_residual-in_err-version.ensures.1).1 tt
 
 pub returns-in_err-version-clause-sized : goal.returns-in_err-version-clause-sized
-returns-in_err-version-clause-sized g c = grind (arith, moves)
+returns-in_err-version-clause-sized g c = rw (err_from_is_err_and c.from_residual-in_err-version.result c.from_residual-in_err-version.ensures.1).1 tt
 
 pub returns-in_err-version-clause-synced : goal.returns-in_err-version-clause-synced
-returns-in_err-version-clause-synced g c = grind (arith, moves)
+returns-in_err-version-clause-synced g c = rw (err_from_is_err_and c.from_residual-in_err-version.result c.from_residual-in_err-version.ensures.1).1 tt
 
 pub returns-in_err-version-clause-uses : goal.returns-in_err-version-clause-uses
 returns-in_err-version-clause-uses g c =
@@ -201,16 +201,16 @@ returns-in_err-version-clause-uses g c =
     })
 
 pub returns-in_err-log-clause-number : goal.returns-in_err-log-clause-number
-returns-in_err-log-clause-number g c = grind (arith, moves)
+returns-in_err-log-clause-number g c = rw (err_from_is_err_and c.from_residual-in_err-log.result c.from_residual-in_err-log.ensures.1).1 tt
 
 pub returns-in_err-log-clause-one : goal.returns-in_err-log-clause-one
-returns-in_err-log-clause-one g c = grind (arith, moves)
+returns-in_err-log-clause-one g c = rw (err_from_is_err_and c.from_residual-in_err-log.result c.from_residual-in_err-log.ensures.1).1 tt
 
 pub returns-in_err-log-clause-sized : goal.returns-in_err-log-clause-sized
-returns-in_err-log-clause-sized g c = grind (arith, moves)
+returns-in_err-log-clause-sized g c = rw (err_from_is_err_and c.from_residual-in_err-log.result c.from_residual-in_err-log.ensures.1).1 tt
 
 pub returns-in_err-log-clause-synced : goal.returns-in_err-log-clause-synced
-returns-in_err-log-clause-synced g c = grind (arith, moves)
+returns-in_err-log-clause-synced g c = rw (err_from_is_err_and c.from_residual-in_err-log.result c.from_residual-in_err-log.ensures.1).1 tt
 
 pub returns-in_err-log-clause-uses : goal.returns-in_err-log-clause-uses
 returns-in_err-log-clause-uses g c =

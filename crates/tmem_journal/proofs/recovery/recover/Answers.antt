@@ -1,5 +1,6 @@
 use Rattle.std.proofs.Common.{refl, ap, ◌∙◌, arith}
 use Rattle.std.proofs.lemmas.Grind.{moves}
+use Rattle.std.proofs.lemmas.Result.{err_from_is_err_and}
 use Rattle.tmem_disk.specs.Disk.{after_fault}
 use Rattle.tmem_journal.specs.Contents.{position_at}
 use Rattle.tmem_journal.proofs.Recovered.{looking_mends, closing_mends}
@@ -28,22 +29,22 @@ pub returns-in-Ok-clause-closed : goal.returns-in-Ok-clause-closed
 returns-in-Ok-clause-closed g c = c.in-Ok.ensures.closed c.in_ok-found.ensures.synced
 
 pub returns-in_err-found-clause-found : goal.returns-in_err-found-clause-found
-returns-in_err-found-clause-found g c = grind (arith, moves)
+returns-in_err-found-clause-found g c = rw (err_from_is_err_and c.from_residual.result c.from_residual.ensures.1).1 (λ _. tt)
 
 pub returns-in_err-found-clause-number : goal.returns-in_err-found-clause-number
-returns-in_err-found-clause-number g c = grind (arith, moves)
+returns-in_err-found-clause-number g c = rw (err_from_is_err_and c.from_residual.result c.from_residual.ensures.1).1 tt
 
 pub returns-in_err-found-clause-one : goal.returns-in_err-found-clause-one
-returns-in_err-found-clause-one g c = grind (arith, moves)
+returns-in_err-found-clause-one g c = rw (err_from_is_err_and c.from_residual.result c.from_residual.ensures.1).1 tt
 
 pub returns-in_err-found-clause-sized : goal.returns-in_err-found-clause-sized
-returns-in_err-found-clause-sized g c = grind (arith, moves)
+returns-in_err-found-clause-sized g c = rw (err_from_is_err_and c.from_residual.result c.from_residual.ensures.1).1 tt
 
 pub returns-in_err-found-clause-synced : goal.returns-in_err-found-clause-synced
-returns-in_err-found-clause-synced g c = grind (arith, moves)
+returns-in_err-found-clause-synced g c = rw (err_from_is_err_and c.from_residual.result c.from_residual.ensures.1).1 tt
 
 pub returns-in_err-found-clause-closed : goal.returns-in_err-found-clause-closed
-returns-in_err-found-clause-closed g c = grind (arith, moves)
+returns-in_err-found-clause-closed g c = rw (err_from_is_err_and c.from_residual.result c.from_residual.ensures.1).1 tt
 
 pub returns-in_err-found-clause-uses : goal.returns-in_err-found-clause-uses
 returns-in_err-found-clause-uses g c = grind (arith, moves)
