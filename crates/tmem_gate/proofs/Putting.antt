@@ -10,6 +10,24 @@ use Rattle.tmem_gate.specs.Calls.{MadeBy, WritesWithin}
 use Rattle.tmem_gate.specs.Cells.{LeftClosed, LeftOpen}
 use Rattle.tmem_gate.specs.Changes.{WasMade, NotMade, InDoubt, Either, Puts}
 
+-- the body of a cell lies within it
+body_starts : (at : ℕ) → at ≤ at + 1
+body_starts at = omega arith
+
+body_ends : (at n : ℕ) → at + 1 + n ≤ at + (1 + n)
+body_ends at n = omega arith
+
+-- and so does its gate
+gate_starts : (at : ℕ) → at ≤ at
+gate_starts at = omega arith
+
+gate_ends : (at n : ℕ) → at + 1 ≤ at + (1 + n)
+gate_ends at n = omega arith
+
+-- where a byte and a body after it end
+byte_and_body : (at x : ℕ) (body : List ℕ) → at + 1 + length body ≡ at + length (x ∷ body)
+byte_and_body at x body = omega arith
+
 -- a call that writes behind a closed gate
 module _ (old mid : DeviceView) (at : ℕ) (bytes : List ℕ) (device : IsDevice mid) (within : WritesWithin (at + 1) (length bytes) old mid) (closed : AtEachMoment old mid (IsClosed at)) where
   abbrev No : List ℕ → List ℕ → Type 0
@@ -22,14 +40,14 @@ module _ (old mid : DeviceView) (at : ℕ) (bytes : List ℕ) (device : IsDevice
   while_put = record {
     each = λ k c left.
         let from = within.any_moment.each k c left in
-        (from.0, from.1, record { elsewhere = SameOutside-wider (at + 1) (length bytes) at (1 + length bytes) from.0 c (omega arith) (omega arith) from.2; gate = closed.each k c left });
+        (from.0, from.1, record { elsewhere = SameOutside-wider (at + 1) (length bytes) at (1 + length bytes) from.0 c (body_starts at) (body_ends at (length bytes)) from.2; gate = closed.each k c left });
   }
 
   once_put : LeavesOnly mid (MadeBy No old)
   once_put = LeavesOnly-moment old mid _ device within.time.later while_put
 
   wider : WritesWithin at (1 + length bytes) old mid
-  wider = WritesWithin-wider (at + 1) (length bytes) at (1 + length bytes) (omega arith) (omega arith) old mid within
+  wider = WritesWithin-wider (at + 1) (length bytes) at (1 + length bytes) (body_starts at) (body_ends at (length bytes)) old mid within
 
   -- where it failed at the write
   pub not_put : Puts at (1 + length bytes) No Yes old mid NotMade
@@ -48,7 +66,7 @@ module _ (old mid : DeviceView) (at : ℕ) (bytes : List ℕ) (device : IsDevice
     made : new.keeps_model → (c : List ℕ) → Rewritten at 1 mid c → MadeBy (Either No Yes) old c
     made k c from =
         let before = once_put.each (model k) from.0 from.1 in
-        let gate = SameOutside-wider at 1 at (1 + length bytes) from.0 c (omega arith) (omega arith) from.2 in
+        let gate = SameOutside-wider at 1 at (1 + length bytes) from.0 c (gate_starts at) (gate_ends at (length bytes)) from.2 in
         let same = SameOutside-trans at (1 + length bytes) before.0 from.0 c before.2.elsewhere gate in
         let was = subst (λ (l : List ℕ). SameOutside at (1 + length bytes) old.seen l) (sym (synced (model k) from.0 from.1)) (wider.seen (model k)) in (
           before.0,
@@ -62,7 +80,7 @@ module _ (old mid : DeviceView) (at : ℕ) (bytes : List ℕ) (device : IsDevice
     -- where it failed
     pub open_in_doubt : Puts at (1 + length bytes) No Yes old new InDoubt
     open_in_doubt = record {
-      elsewhere = WritesWithin-trans at (1 + length bytes) old mid new model wider (WritesWithin-wider at 1 at (1 + length bytes) (omega arith) (omega arith) mid new within_now);
+      elsewhere = WritesWithin-trans at (1 + length bytes) old mid new model wider (WritesWithin-wider at 1 at (1 + length bytes) (gate_starts at) (gate_ends at (length bytes)) mid new within_now);
       stands = record { each = λ k c left. made k c (within_now.crash.each k c left) };
       any_moment = record {
         each = λ k c left. ⊎_elim
@@ -86,7 +104,7 @@ module _ (old mid : DeviceView) (at : ℕ) (bytes : List ℕ) (device : IsDevice
 -- what was written behind the gate reads so
 pub body_written : (old mid : DeviceView) (at : ℕ) (bytes : List ℕ) → IsDevice old → (mid.keeps_model → old.keeps_model) → at + 1 + length bytes ≤ old.capacity → ReadsAs mid (overwritten old.seen (at + 1) bytes) → mid.keeps_model → HasBody at bytes mid.seen
 body_written old mid at bytes device model room reads k =
-    let within : at + 1 + length bytes ≤ length old.seen = omega (arith, room, device.seen_is_whole (model k)) in
+    let within : at + 1 + length bytes ≤ length old.seen = subst (λ (n : ℕ). at + 1 + length bytes ≤ n) (sym (device.seen_is_whole (model k))) room in
     ap (λ (l : List ℕ). slice_range l (at + 1) (at + 1 + length bytes)) (reads k) ∙ slice_range-overwritten old.seen (at + 1) bytes within
 
 -- a body, and then the byte in front of it
@@ -95,10 +113,10 @@ byte_in_front at x body old between new fits body_is byte_is =
     let rest : List ℕ = drop (at + 1 + length body) old in
     let long : length (take (at + 1) old) ≡ at + 1 = length-take-le (at + 1) old fits in
     let parted : between ≡ take (at + 1) old ++ (body ++ rest) = body_is ∙ append_assoc (take (at + 1) old) body rest in
-    let le : at ≤ at + 1 = omega arith in
+    let le : at ≤ at + 1 = body_starts at in
     let front : take at between ≡ take at old =
     sym (take-take at (at + 1) between le) ∙ ap (take at) (ap (take (at + 1)) parted ∙ take_at (take (at + 1) old) (body ++ rest) (at + 1) long) ∙ take-take at (at + 1) old le in
     let behind : drop (at + 1) between ≡ body ++ rest = ap (drop (at + 1)) parted ∙ drop_at (take (at + 1) old) (body ++ rest) (at + 1) long in
-    let offset : at + 1 + length body ≡ at + length (x ∷ body) = omega arith in
+    let offset : at + 1 + length body ≡ at + length (x ∷ body) = byte_and_body at x body in
     byte_is ∙ ap (λ (l : List ℕ). (l ++ x ∷ []) ++ drop (at + 1) between) front ∙ ap (λ (l : List ℕ). (take at old ++ x ∷ []) ++ l) behind
     ∙ sym (append_assoc (take at old ++ x ∷ []) body rest) ∙ ap (λ (l : List ℕ). l ++ rest) (append_assoc (take at old) (x ∷ []) body) ∙ ap (λ (k : ℕ). (take at old ++ x ∷ body) ++ drop k old) offset

@@ -251,6 +251,12 @@ settles_without w w' slot none layout steps same attempts device =
     attempts_answered w w' (event.Settle slot) (reply.Fault fault.Closed) layout steps same device
     (λ program means m r keeps. (m, closed_session program (held_of w) m _ none r.session, same_point w w' same program m r attempts layout)) tt (λ n. refl) tt
 
+pub turns_without : {D T S : Type 0} {d t s : _} (w w' : World D T S d t s) (slot : ℕ) → (IsWith (held_of w) → ⊥) → w'.layout ≡ w.layout → w'.steps ≡ w.steps → w'.held ≡ w.held → w'.attempts.items ≡ w.attempts.items → IsDevice (world_view w)
+    → IsAnswered w (event.Turn slot) (reply.Fault fault.Closed) w'
+turns_without w w' slot none layout steps same attempts device =
+    attempts_answered w w' (event.Turn slot) (reply.Fault fault.Closed) layout steps same device
+    (λ program means m r keeps. (m, closed_session program (held_of w) m _ none r.session, same_point w w' same program m r attempts layout)) tt (λ n. refl) tt
+
 pub flushes_without : {D T S : Type 0} {d t s : _} (w w' : World D T S d t s) → (IsWith (held_of w) → ⊥) → w'.layout ≡ w.layout → w'.steps ≡ w.steps → w'.held ≡ w.held → w'.attempts.items ≡ w.attempts.items → IsDevice (world_view w)
     → IsAnswered w event.Flush (reply.Fault fault.Closed) w'
 flushes_without w w' none layout steps same attempts device =

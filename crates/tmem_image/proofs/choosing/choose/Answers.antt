@@ -1,4 +1,6 @@
 use Rattle.std.proofs.Common.{ℕ, List, subst}
+use Rattle.std.proofs.lemmas.Result.{err_from_is_err_and}
+use Rattle.tmem_gate.proofs.Laws.{LooksOnly-trans}
 use Rattle.tmem_image.specs.Image.{ChoosesCopy, HasHead}
 use Rattle.tmem_image.proofs.Loading.{none_for, none_under}
 use Rattle.tmem_image.proofs.choosing.choose.Goals as goal
@@ -12,3 +14,24 @@ returns-clause-refused g c =
     (subst (λ (p : ℕ). HasHead p c.in_ok-first.first seen) c.image.ensures (c.in_ok-first.ensures.found (c.in_ok-second.ensures.uses.model k)))
     (subst (λ (p : ℕ). HasHead p c.in_ok-second.second seen) c.image-2.ensures (subst (λ (l : List ℕ). HasHead c.image-2.result c.in_ok-second.second l) (c.in_ok-first.ensures.looks.seen (c.in_ok-second.ensures.uses.model k)) (c.in_ok-second.ensures.found k))) in
     none_for _ c.greater.result c.ok_or.result c.ok_or.ensures.value (none_under new.keeps_model ((copy : ℕ) → ChoosesCopy vars copy seen → ⊥) c.greater.result none) (λ none. none)
+
+pub returns-in_err-first-clause-one : goal.returns-in_err-first-clause-one
+returns-in_err-first-clause-one g c = rw (err_from_is_err_and c.from_residual.result c.from_residual.ensures.1).1 tt
+
+pub returns-in_err-first-clause-found : goal.returns-in_err-first-clause-found
+returns-in_err-first-clause-found g c = rw (err_from_is_err_and c.from_residual.result c.from_residual.ensures.1).1 (λ _. tt)
+
+pub returns-in_err-second-clause-one : goal.returns-in_err-second-clause-one
+returns-in_err-second-clause-one g c = rw (err_from_is_err_and c.from_residual-in_err-second.result c.from_residual-in_err-second.ensures.1).1 tt
+
+pub returns-in_err-second-clause-found : goal.returns-in_err-second-clause-found
+returns-in_err-second-clause-found g c = rw (err_from_is_err_and c.from_residual-in_err-second.result c.from_residual-in_err-second.ensures.1).1 (λ _. tt)
+
+pub returns-in_err-first-clause-looks : goal.returns-in_err-first-clause-looks
+returns-in_err-first-clause-looks g c = c.head_at.ensures.looks
+
+pub returns-in_err-second-clause-looks : goal.returns-in_err-second-clause-looks
+returns-in_err-second-clause-looks g c = LooksOnly-trans _ _ _ c.head_at-2.ensures.uses.model c.head_at.ensures.looks c.head_at-2.ensures.looks
+
+pub returns-clause-looks : goal.returns-clause-looks
+returns-clause-looks g c = LooksOnly-trans _ _ _ c.head_at-2.ensures.uses.model c.head_at.ensures.looks c.head_at-2.ensures.looks

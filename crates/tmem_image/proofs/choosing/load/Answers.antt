@@ -1,4 +1,5 @@
 use Rattle.std.proofs.Common.{◌+◌, ◌-◌, ℕ, List, length, take, drop, refl, sym, ◌∙◌, ap, subst}
+use Rattle.std.proofs.lemmas.Result.{err_from_is_err_and}
 use Rattle.std.specs.Prelude.{slice_range}
 use Rattle.tmem_gate.specs.Gate.{IsOpenAt}
 use Rattle.tmem_record.specs.Layout.{image_size, image_at}
@@ -29,3 +30,30 @@ returns-clause-refused g c =
     let read = c.in_ok-bytes.ensures.bytes k ∙ ap (λ (p : ℕ). slice_range seen p (p + length c.args.room.bytes.items)) c.image.ensures ∙ ap (λ (n : ℕ). slice_range seen (image_at vars copy) (image_at vars copy + n)) c.requires.room.bytes in
     let behind = ap (λ (l : List ℕ). take (length l - 1) (drop 1 l)) c.deref-2.ensures.value ∙ ap (λ (n : ℕ). take (n - 1) (drop 1 bytes)) (c.in_ok-bytes.ensures.length ∙ c.requires.room.bytes) in
     other v generation s holds.number holds.fits (behind ∙ image_there vars copy size seen bytes refl read v generation s holds))
+
+pub returns-in_err-bytes-clause-number : goal.returns-in_err-bytes-clause-number
+returns-in_err-bytes-clause-number g c = rw (err_from_is_err_and c.from_residual.result c.from_residual.ensures.1).1 tt
+
+pub returns-in_err-bytes-clause-fits : goal.returns-in_err-bytes-clause-fits
+returns-in_err-bytes-clause-fits g c = rw (err_from_is_err_and c.from_residual.result c.from_residual.ensures.1).1 tt
+
+pub returns-in_err-bytes-clause-found : goal.returns-in_err-bytes-clause-found
+returns-in_err-bytes-clause-found g c = rw (err_from_is_err_and c.from_residual.result c.from_residual.ensures.1).1 (λ _. tt)
+
+pub returns-then-not-reads_open-clause-number : goal.returns-then-not-reads_open-clause-number
+returns-then-not-reads_open-clause-number g c = tt
+
+pub returns-then-not-reads_open-clause-fits : goal.returns-then-not-reads_open-clause-fits
+returns-then-not-reads_open-clause-fits g c = tt
+
+pub returns-then-not-reads_open-clause-found : goal.returns-then-not-reads_open-clause-found
+returns-then-not-reads_open-clause-found g c = λ _. tt
+
+pub returns-in_err-bytes-clause-looks : goal.returns-in_err-bytes-clause-looks
+returns-in_err-bytes-clause-looks g c = c.read_piece.ensures.looks
+
+pub returns-then-not-reads_open-clause-looks : goal.returns-then-not-reads_open-clause-looks
+returns-then-not-reads_open-clause-looks g c = c.read_piece.ensures.looks
+
+pub returns-clause-looks : goal.returns-clause-looks
+returns-clause-looks g c = c.read_piece.ensures.looks

@@ -1,6 +1,10 @@
-use Rattle.std.proofs.lemmas.Grind.{common_steps}
-use Rattle.std.proofs.Common.{◌≡◌, sym, subst, arith}
+use Rattle.std.proofs.lemmas.Grind.{moves}
+use Rattle.std.proofs.lemmas.Result.{err_from_is_err_and}
+use Rattle.std.proofs.Common.{◌≡◌, ⊎_elim, ◌≤◌, ℕ, length, sym, ◌∙◌, ap, subst, arith}
+use Rattle.std.specs.Prelude.{MatchResult}
 use Rattle.tmem_disk.proofs.Laws.{LeavesOnly-synced}
+use Rattle.tmem_gate.specs.Calls.{failures_after}
+use Rattle.tmem_effect.specs.State.{State}
 use Rattle.tmem_state.specs.declared.version.Version.TheVariants.{Two}
 use Rattle.tmem_image.specs.Image.{other_copy}
 use Rattle.tmem_journal.specs.Mended.{MendsDevice, IsFoundAt, SameBesideCopy}
@@ -73,10 +77,65 @@ returns-clause-migrates g c = λ k p s stands.
     (SameBesideCopy-after layout.vars layout.slots (other_copy found.copy) _ _ _ (it.mends.seen mid) (c.migrate.ensures.beside k))
 
 pub returns-clause-uses : goal.returns-clause-uses
-returns-clause-uses g c = grind (arith, common_steps)
+returns-clause-uses g c =
+    let it = c.in_ok-found.ensures.uses in
+    let then = c.migrate.ensures.uses in
+    let new = (g.D.Disk.view c.migrate.new.disk).failures in
+    record {
+      capacity = then.capacity ∙ it.capacity;
+      model = λ k. it.model (then.model k);
+      failures = subst (λ (n : ℕ). MatchResult c.migrate.result (λ _. new ≡ n) (λ f. new ≡ failures_after f n)) it.failures then.failures;
+    }
 
 pub returns-clause-refused_looks : goal.returns-clause-refused_looks
-returns-clause-refused_looks g c = grind (arith, common_steps)
+returns-clause-refused_looks g c =
+    if_err _ _ (λ f why not_device not_spent. absurd (⊎_elim not_device (λ is. not_spent is.0) why)) c.migrate.result c.migrate.ensures.refused
 
 pub returns-clause-sized : goal.returns-clause-sized
-returns-clause-sized g c = grind (arith, common_steps)
+returns-clause-sized g c =
+    let layout = c.args.layout in
+    if_ok_2 _ _ (λ f. (length f.state.values ≡ layout.vars) × (f.log.used ≤ layout.slots))
+    (λ f state few. (ap (λ (s : State). length s.values) state ∙ c.in_ok-found.ensures.sized.0, few))
+    c.migrate.result c.migrate.ensures.state c.migrate.ensures.few
+
+pub returns-in_err-found-clause-found : goal.returns-in_err-found-clause-found
+returns-in_err-found-clause-found g c = rw (err_from_is_err_and c.from_residual.result c.from_residual.ensures.1).1 (λ _. tt)
+
+pub returns-in_err-found-clause-number : goal.returns-in_err-found-clause-number
+returns-in_err-found-clause-number g c = rw (err_from_is_err_and c.from_residual.result c.from_residual.ensures.1).1 tt
+
+pub returns-in_err-found-clause-one : goal.returns-in_err-found-clause-one
+returns-in_err-found-clause-one g c = rw (err_from_is_err_and c.from_residual.result c.from_residual.ensures.1).1 tt
+
+pub returns-in_err-found-clause-sized : goal.returns-in_err-found-clause-sized
+returns-in_err-found-clause-sized g c = rw (err_from_is_err_and c.from_residual.result c.from_residual.ensures.1).1 tt
+
+pub returns-in_err-found-clause-synced : goal.returns-in_err-found-clause-synced
+returns-in_err-found-clause-synced g c = rw (err_from_is_err_and c.from_residual.result c.from_residual.ensures.1).1 tt
+
+pub returns-in_err-found-clause-closed : goal.returns-in_err-found-clause-closed
+returns-in_err-found-clause-closed g c = rw (err_from_is_err_and c.from_residual.result c.from_residual.ensures.1).1 tt
+
+pub returns-in_err-found-clause-sure : goal.returns-in_err-found-clause-sure
+returns-in_err-found-clause-sure g c = rw (err_from_is_err_and c.from_residual.result c.from_residual.ensures.1).1 tt
+
+pub returns-in_err-found-clause-uses : goal.returns-in_err-found-clause-uses
+returns-in_err-found-clause-uses g c = grind (arith, moves)
+
+pub returns-in_err-found-clause-mends : goal.returns-in_err-found-clause-mends
+returns-in_err-found-clause-mends g c = λ _. c.recover.ensures.mends
+
+pub returns-clause-number : goal.returns-clause-number
+returns-clause-number g c = c.migrate.ensures.number
+
+pub returns-clause-one : goal.returns-clause-one
+returns-clause-one g c = c.migrate.ensures.one
+
+pub returns-clause-sure : goal.returns-clause-sure
+returns-clause-sure g c = c.migrate.ensures.sure
+
+pub returns-clause-synced : goal.returns-clause-synced
+returns-clause-synced g c = c.migrate.ensures.synced
+
+pub returns-clause-closed : goal.returns-clause-closed
+returns-clause-closed g c = c.migrate.ensures.closed

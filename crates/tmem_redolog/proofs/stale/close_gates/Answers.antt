@@ -1,4 +1,4 @@
-use Rattle.std.proofs.lemmas.Grind.{common_steps}
+use Rattle.std.proofs.lemmas.Grind.{common_steps, moves}
 use Rattle.std.proofs.Common.{◌≡◌, ◌⊎◌, inl, inr, ◌+◌, ◌<◌, ◌≤◌, true, false, refl, rules, subst, sym, arith}
 use Rattle.tmem_gate.specs.Gate.{IsClosed}
 use Rattle.tmem_gate.proofs.Laws.{LooksOnly-refl, LooksOnly-trans}
@@ -76,10 +76,13 @@ pub returns-clause-idle : goal.returns-clause-idle
 returns-clause-idle g c = λ shut. looks_given _ _ (idle_so_far c.args.layout.vars c.args.layout.slots c.args.from c.loop-k.k _ _ c.loop-k.any (omega arith) c.loop-k.invariant shut)
 
 pub returns-in_err-closed-clause-call : goal.returns-in_err-closed-clause-call
-returns-in_err-closed-clause-call g c = grind (arith, common_steps)
+returns-in_err-closed-clause-call g c = grind (arith, moves)
 
 pub returns-in_err-closed-clause-looks : goal.returns-in_err-closed-clause-looks
-returns-in_err-closed-clause-looks g c = grind (arith, common_steps)
+returns-in_err-closed-clause-looks g c = grind (arith, moves)
 
 pub returns-clause-closed : goal.returns-clause-closed
 returns-clause-closed g c = grind (arith, common_steps)
+
+pub returns-in_err-closed-clause-closed : goal.returns-in_err-closed-clause-closed
+returns-in_err-closed-clause-closed g c = grind (arith, moves)

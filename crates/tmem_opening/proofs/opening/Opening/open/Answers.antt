@@ -1,12 +1,14 @@
-use Rattle.std.proofs.Common.{◌≡◌, Some, sym, subst, rules}
-use Rattle.tmem_disk.specs.Disk.{SameDevice}
+use Rattle.std.proofs.Common.{◌≡◌, ℕ, length, Some, sym, ◌∙◌, ap, subst}
+use Rattle.tmem_disk.specs.Disk.{LeavesOnly, SameDevice}
 use Rattle.tmem_fault.specs.declared.fault.Fault.TheVariants as fault
 use Rattle.tmem_effect.specs.State.{State}
 use Rattle.tmem_invariants.specs.Meanings.{IsSound}
+use Rattle.tmem_tree.specs.Shapes.{AreWithin}
 use Rattle.tmem_core.specs.Opening.{opening_fault}
 use Rattle.tmem_core.specs.Program.{IsProgramOf}
+use Rattle.tmem_journal.specs.Contents.{ContentRepresents}
 use Rattle.tmem_journal.specs.Held as journal
-use Rattle.tmem_opening.specs.Opening.{OpeningRefused}
+use Rattle.tmem_opening.specs.Opening.{FindsState, OpeningRefused}
 use Rattle.tmem_opening.proofs.Laws.{given_up}
 use Rattle.tmem_opening.proofs.Refusals.{mending, same, journal_refused, core_refused, only_memory}
 use Rattle.tmem_opening.proofs.opening.Opening.open.Goals as goal
@@ -22,15 +24,23 @@ returns-in-Err-clause-refused g c =
 
 pub returns-in-Ok-made-clause-opened : goal.returns-in-Ok-made-clause-opened
 returns-in-Ok-made-clause-opened g c =
-    let opened = c.in-Ok.ensures in record {
-      found = search rules;
-      sound = search rules;
-      leaves = search rules;
-      values = search rules;
-      fits = search rules;
-      holds = search rules;
-      uses = search rules;
-      mends = mending c.args.vars c.args.slots (g.D.Disk.view c.args.disk) (journal.journal_device c.in-Ok.journal) (g.met.D.Disk.is_device (journal.disk_of c.in-Ok.journal)) opened.recovers opened.mends;
+    let j = c.in-Ok.journal in
+    let opened = c.in-Ok.ensures in
+    let made = c.in-Ok-new.ensures in
+    let old = g.D.Disk.view c.args.disk in
+    let new = journal.journal_device j in
+    let at = journal.journal_position j in
+    let copied = ap (λ v. v.state) made.view in
+    let same = copied ∙ c.state.ensures in
+    record {
+      found = λ k. subst (λ (s : State). FindsState c.args.vars c.args.slots old new at s) (sym same) (record { was = opened.found k; stands = opened.stands k });
+      sound = λ m stated. subst (λ (s : State). IsSound m (g.T.Invariants.names c.args.table) s.names s.values) (sym copied) (made.sound m stated);
+      leaves = subst (λ (s : State). LeavesOnly new (ContentRepresents c.args.vars c.args.slots at s)) (sym same) (rw (opened.fits.0, opened.fits.1) at (j.sure opened.fresh.0));
+      values = ap (λ (s : State). length s.values) same ∙ j.sized ∙ opened.fits.0;
+      fits = opened.fits;
+      holds = ap (λ v. v.table) made.view;
+      uses = opened.uses;
+      mends = mending c.args.vars c.args.slots old new (g.met.D.Disk.is_device (journal.disk_of j)) opened.recovers opened.mends;
     }
 
 pub returns-in-Err-made-clause-refused : goal.returns-in-Err-made-clause-refused
@@ -71,3 +81,25 @@ returns-in-Err-new-clause-recovers g c = λ p a b are sound_a sound_b fits left 
     (λ no. subst (λ (x : State). ¬ IsSound p.tests p.names x.names x.values) c.state.ensures
     (subst (λ ns. ¬ IsSound p.tests ns c.state.result.now.names c.state.result.now.values) (sym are.names) (so.unsound p.tests are.tests no)))
     either sound_a sound_b
+
+pub invariant_of-result : goal.invariant_of-result
+invariant_of-result g c =
+    let j = c.in-Ok.journal in
+    let opened = c.in-Ok.ensures in
+    let view = c.in-Ok-new.ensures.view in
+    let made = c.in-Ok-made.ensures in
+    let copied = ap (λ v. v.state) view in
+    let table = ap (λ v. v.table) view in
+    let same = copied ∙ c.state.ensures in
+    let values = ap (λ (s : State). length s.values) same ∙ j.sized ∙ opened.fits.0 ∙ sym c.requires in
+    record {
+      found = same;
+      waits = ap (λ v. v.waiting) view;
+      known = ap (λ v. v.durable) view ∙ sym (ap (λ (s : State). s.count) copied);
+      running = ap (λ v. v.is_shut) view;
+      «open» = opened.fresh.0;
+      sure = opened.fresh.1;
+      named = made.named ∙ sym (ap (λ t. g.T.Invariants.names t) table);
+      meant = λ m stated. made.meant m (subst (λ t. g.T.Invariants.is_stated t m) table stated);
+      within = subst (λ (n : ℕ). AreWithin n c.in-Ok-made.shapes.items) (sym values) made.within;
+    }

@@ -1,7 +1,8 @@
-use Rattle.std.proofs.lemmas.Grind.{common_steps}
-use Rattle.std.proofs.Common.{arith, refl, sym, ◌∙◌, ap, subst}
+use Rattle.std.proofs.Common.{refl, sym, ◌∙◌, ap, subst}
+use Rattle.std.specs.Prelude.{Ok, Err}
 use Rattle.tmem_disk.specs.Disk.{AtEachMoment}
 use Rattle.tmem_fault.specs.declared.fault.Fault.TheVariants.{Memory}
+use Rattle.tmem_gate.specs.Calls.{Uses}
 use Rattle.tmem_core.specs.Program.{IsProgramOf}
 use Rattle.tmem_journal.specs.Held as journal
 use Rattle.tmem_opening.specs.Held.{found_of, opening_position, opening_device}
@@ -100,7 +101,41 @@ returns-clause-chain g c = λ program h means store keeps.
     }
 
 pub returns-in-Err-clause-refused : goal.returns-in-Err-clause-refused
-returns-in-Err-clause-refused g c = grind (arith, common_steps)
+returns-in-Err-clause-refused g c = c.in-Err.ensures.refused
 
 pub returns-in-Err-empty_attempts-clause-uses : goal.returns-in-Err-empty_attempts-clause-uses
-returns-in-Err-empty_attempts-clause-uses g c = grind (arith, common_steps)
+returns-in-Err-empty_attempts-clause-uses g c =
+    let so = c.in-Ok.ensures.opened.uses in
+    subst (λ x. Uses {T = Unit {0}} (g.D.Disk.view c.args.disk) (g.D.Disk.view x) (Err Memory)) (sym c.into_disk.ensures) (record { capacity = so.capacity; model = so.model; failures = so.failures })
+
+pub returns-in-Err-clause-uses : goal.returns-in-Err-clause-uses
+returns-in-Err-clause-uses g c = c.in-Err.ensures.refused.uses
+
+pub returns-in-Err-clause-mends : goal.returns-in-Err-clause-mends
+returns-in-Err-clause-mends g c = c.in-Err.ensures.refused.mends
+
+pub returns-in-Err-clause-untouched : goal.returns-in-Err-clause-untouched
+returns-in-Err-clause-untouched g c = c.in-Err.ensures.untouched
+
+pub returns-in-Err-clause-recovers : goal.returns-in-Err-clause-recovers
+returns-in-Err-clause-recovers g c = λ program a b means sound_a sound_b fits left keeps. c.in-Err.ensures.recovers program a b means.invariants sound_a sound_b fits left keeps
+
+pub returns-in-Err-empty_attempts-clause-untouched : goal.returns-in-Err-empty_attempts-clause-untouched
+returns-in-Err-empty_attempts-clause-untouched g c = λ unfit. absurd (unfit c.in-Ok.ensures.opened.fits.2)
+
+pub returns-clause-table : goal.returns-clause-table
+returns-clause-table g c = ap (λ k. k.table) c.begin-session.ensures.core ∙ c.in-Ok.ensures.opened.holds
+
+pub returns-clause-uses : goal.returns-clause-uses
+returns-clause-uses g c =
+    subst (λ j. Uses {T = Unit {0}} (g.D.Disk.view c.args.disk) (journal.journal_device j) (Ok tt)) (sym c.begin-session.ensures.journal) c.in-Ok.ensures.opened.uses
+
+pub returns-clause-fits : goal.returns-clause-fits
+returns-clause-fits g c =
+    let so = c.in-Ok.ensures.opened.fits in
+    let begun = c.begin-session.ensures.journal in (
+      ap (λ l. l.vars) c.layout.ensures ∙ ap (λ j. (journal.journal_layout j).vars) begun ∙ so.0,
+      ap (λ l. l.slots) c.layout.ensures ∙ ap (λ j. (journal.journal_layout j).slots) begun ∙ so.1,
+      tt,
+      so.2,
+    )

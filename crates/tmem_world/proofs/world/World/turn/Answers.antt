@@ -1,4 +1,5 @@
-use Rattle.std.proofs.Common.{◌≡◌, ◌<◌, length, refl, sym, ◌∙◌, subst, arith, rules, length-set}
+use Rattle.std.proofs.Common.{◌≡◌, ◌<◌, length, refl, sym, ◌∙◌, ap, subst, arith, rules, length-set}
+use Rattle.std.specs.Prelude.{Some}
 use Rattle.std.proofs.lemmas.List.Elements.{All-set}
 use Rattle.tmem_core.specs.Held.{core_state, core_table}
 use Rattle.tmem_invariants.specs.Meanings.{Meanings}
@@ -7,9 +8,10 @@ use Rattle.tmem_world.specs.declared.held.Held.TheVariants.{With}
 use Rattle.tmem_world.specs.Attempts.{FitsAttempt}
 use Rattle.tmem_world.specs.WorldModel.{holding, attempt_at}
 use Rattle.tmem_world.specs.Represents.{world_disk, held_of}
-use Rattle.tmem_world.proofs.Points.{attempts_answered, held_is, is_with, in_session, with_attempt, attempt_holds, session_at, core_means}
+use Rattle.tmem_world.proofs.Points.{attempts_answered, held_is, is_with, in_session, with_attempt, attempt_holds, session_at, core_means, turns_without, session_of_it, held_as}
 use Rattle.tmem_world.proofs.HeldAttempts.{fits_session, fits_world, fits_table}
 use Rattle.tmem_world.proofs.TurnedPoints.{turns}
+use Rattle.tmem_world.proofs.world.World.turn.Goals.{in_default-via-in-Some+in-Without-1, in_default-via-in-None-1}
 use Rattle.tmem_world.proofs.world.World.turn.Goals as goal
 
 pub turn-requires : goal.turn-requires
@@ -56,3 +58,14 @@ returns-in-Some-With g c =
     let done = turns program m c.args.attempt old new (core_state o.core) (session_at program w m o before r).state (g.S.StoredSteps.is_stated w.steps) means.steps (g.T.Invariants.is_stated (core_table o.core)) tests
     (attempt_at m c.args.attempt) c.turn.result refl holds so.idle so.ended so.begun (λ plan is. so.at plan program.steps program.tests is means.steps tests) so.plan in
     (holding m c.args.attempt done.0, in_session program (held_of w) m _ _ _ r.session (is_with (held_of w) o before) done.1, with_attempt program w _ m c.args.attempt new done.0 r done.2 refl refl refl)) tt so.failures tt
+
+pub returns-in_default : goal.returns-in_default
+returns-in_default g c =
+    let w = c.args.self.now in
+    let new = c.in_default.self in
+    elim c.in_default.branch [
+      | in_default-via-in-Some+in-Without-1 v ↦
+          let same : new.held ≡ w.held = search rules in
+          turns_without w new c.args.attempt (λ it. let o = session_of_it (held_of w) it in let there : w.held ≡ Some (With o.0) = held_as w.held w.here (With o.0) o.1 in search rules) (ap (λ x. x.layout) v.self-is) (ap (λ x. x.steps) v.self-is) same (ap (λ x. x.attempts.items) v.self-is) (g.met.D.Disk.is_device (world_disk w))
+      | in_default-via-in-None-1 v ↦ absurd (search rules)
+    ]
