@@ -23,6 +23,7 @@ use crate::conditions::Conditions;
 use crate::deciding::decide;
 use crate::pool::Pool;
 use crate::returned::Returned;
+use crate::writing::write;
 use std::alloc::Global;
 use std::sync::{Mutex, MutexGuard, Wait};
 use tmem_core::{Decision, Settled};
@@ -302,11 +303,7 @@ impl<D: Disk + Drop, N: StoreNaming, T: Invariants + Drop, S: StoredSteps + Drop
         if !is_waiting {
             return Ok(journal.count());
         }
-        let flushed = if makes_room {
-            journal.write_with_room(&self.spine)
-        } else {
-            journal.write(&self.spine)
-        };
+        let flushed = write(&mut journal, &self.spine, makes_room);
         self.tell(rt, &mut journal, Failure::of(&flushed));
         flushed
     }
