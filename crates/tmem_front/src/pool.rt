@@ -95,8 +95,9 @@ impl<D: Disk + Drop, N: StoreNaming, T: Invariants + Drop, S: StoredSteps + Drop
     {
         let mut pool = self.pool.lock(rt);
         for _ in rt.forever() {
-            if let Some(pass) = self.lend(rt, &mut pool)? {
-                return Ok(Some(pass));
+            match self.lend(rt, &mut pool) {
+                Ok(None) => {}
+                lent => return lent,
             }
             if pool.has_ended() {
                 return Err(Fault::Closed);
@@ -141,13 +142,14 @@ impl<D: Disk + Drop, N: StoreNaming, T: Invariants + Drop, S: StoredSteps + Drop
     pub fn release_pass<R: Wait>(&self, rt: &R, mut pass: Pass<N>) -> Result<(), Fault>
         ensures refused { IfErr result (λ fault. fault ≡ Fault.Memory) }
     {
-        let mut pool = self.pool.lock(rt);
+        let mut held = self.pool.lock(rt);
+        let pool = &mut *held;
         if !pass.is_pooled {
             pool.make_room()?;
             pool.take_over(&mut pass);
         }
         pool.free.push(pass)?;
-        self.returned.tell_one(pool);
+        self.returned.tell_one(held);
         Ok(())
     }
 

@@ -107,10 +107,11 @@ impl<D: Disk + Drop, N: StoreNaming, T: Invariants + Drop, S: StoredSteps + Drop
     {
         let mut values = Vec::with_capacity(self.alloc, vars.len())?;
         let mut has = Vec::with_capacity(self.alloc, names.len())?;
-        let mut core = self.core.lock(rt);
+        let mut held = self.core.lock(rt);
+        let core = &mut *held;
         let count = core.meet(&self.spine, &mut pass.seat);
         core.peek_all(vars, &mut values)?;
-        push_registered(&core, names, &mut has)?;
+        push_registered(core, names, &mut has)?;
         Ok(Moment { count, values, has })
     }
 }
