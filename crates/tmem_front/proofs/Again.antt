@@ -1,5 +1,5 @@
 -- Attempts that are made again until one is settled.
-use Rattle.std.proofs.Common.{◌≡◌, inl, inr, ⊎_elim, ℕ, ◌≤◌, List, [], ◌++◌, Result, Err, refl, ap, sym, ◌∙◌, subst}
+use Rattle.std.proofs.Common.{◌≡◌, inl, inr, ⊎_elim, Bool, true, false, ℕ, ◌≤◌, List, [], ◌++◌, Result, Err, refl, ap, sym, ◌∙◌, subst}
 use Rattle.std.proofs.Props.{props}
 use Rattle.std.proofs.Math.Logic.{∥∥₁_elim, ∥∥₁_map}
 use Rattle.std.proofs.lemmas.List.{append-nil}
@@ -71,3 +71,8 @@ knows_more_at_last start opening program tx old answer new none = ⊎_elim
       same = ∥∥₁_elim held (hlevel props) (λ h. (knows_more start opening program h.0 old answer new (none h.0.effect) h.2).same);
       begins = ∥∥₁_elim held (hlevel props) (λ h. (knows_more start opening program h.0 old answer new (none h.0.effect) h.2).begins);
     })
+
+-- what never ends has not ended
+pub not_over : {E : Type 0} (over : Bool) → (over ≡ true → E) → (E → ⊥) → over ≡ false
+not_over true ends never = absurd (never (ends refl))
+not_over false ends never = refl

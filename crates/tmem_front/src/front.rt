@@ -23,6 +23,7 @@ use crate::conditions::Conditions;
 use crate::deciding::decide;
 use crate::pool::Pool;
 use crate::returned::Returned;
+use crate::writing::write;
 use std::alloc::Global;
 use std::sync::{Mutex, MutexGuard, Wait};
 use tmem_core::{Decision, Settled};
@@ -294,20 +295,17 @@ impl<D: Disk + Drop, N: StoreNaming, T: Invariants + Drop, S: StoredSteps + Drop
         ensures plain { makes_room ≡ false → IfErr result IsFlushRefusal }
         ensures roomy { makes_room ≡ true → IfErr result IsFlusherRefusal }
     {
-        let mut journal = self.journal.lock(rt);
+        let mut held = self.journal.lock(rt);
+        let journal = &mut *held;
         if journal.is_closed() {
             return Err(Fault::Closed);
         }
-        let is_waiting = self.aim(rt, &mut journal);
+        let is_waiting = self.aim(rt, journal);
         if !is_waiting {
             return Ok(journal.count());
         }
-        let flushed = if makes_room {
-            journal.write_with_room(&self.spine)
-        } else {
-            journal.write(&self.spine)
-        };
-        self.tell(rt, &mut journal, Failure::of(&flushed));
+        let flushed = write(journal, &self.spine, makes_room);
+        self.tell(rt, journal, Failure::of(&flushed));
         flushed
     }
 

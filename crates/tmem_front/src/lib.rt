@@ -23,6 +23,7 @@ mod returned;
 mod values;
 mod waiting;
 mod within;
+mod writing;
 
 pub use front::Front;
 pub use opened::OpenedFront;

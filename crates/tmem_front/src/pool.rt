@@ -1,9 +1,10 @@
 // Passes that callers share.
-ghost use Rattle.std.specs.Prelude.{◌≡◌, ◌⊎◌, ◌≤◌, vec_capacity, None, Ok, IfErr};
+ghost use Rattle.std.specs.Prelude.{◌≡◌, ◌⊎◌, ◌≤◌, vec_capacity, vec_len, None, Ok, IfErr};
 ghost use Rattle.tmem_spine.specs.declared.spine.TheConstants.{MOST_PASSES};
 
 use crate::front::Front;
 use crate::patience::{Endless, Limited, Patience};
+use std::alloc::AllocError;
 use std::rt::Clock;
 use std::sync::Wait;
 use std::time::Duration;
@@ -35,6 +36,20 @@ impl<N: Naming> Pool<N> {
     {
         self.looks = self.looks.wrapping_add(1);
         self.is_closed
+    }
+
+    // Makes room for all passes of a front.
+    fn make_room(&mut self) -> Result<(), AllocError> {
+        let missing = (MOST_PASSES as usize).saturating_sub(self.free.len());
+        self.free.reserve(missing)
+    }
+
+    // The pass is the pool's from now on.
+    fn take_over(&mut self, pass: &mut Pass<N>)
+        ensures { self.new ≡ record self.old { owned = self.new.owned } }
+    {
+        pass.is_pooled = true;
+        self.owned = self.owned.saturating_add(1);
     }
 }
 
@@ -80,25 +95,35 @@ impl<D: Disk + Drop, N: StoreNaming, T: Invariants + Drop, S: StoredSteps + Drop
     {
         let mut pool = self.pool.lock(rt);
         for _ in rt.forever() {
-            if let Some(pass) = pool.free.pop() {
-                return Ok(Some(pass));
+            match self.lend(rt, &mut pool) {
+                Ok(None) => {}
+                lent => return lent,
             }
-            pool.free.reserve(MOST_PASSES as usize)?;
-            match self.new_for_pool(rt, &mut pool) {
-                Ok(pass) => return Ok(Some(pass)),
-                Err(fault) if pool.owned == 0 => return Err(fault),
-                Err(_) => {
-                    if pool.has_ended() {
-                        return Err(Fault::Closed);
-                    }
-                    if patience.is_over() {
-                        return Ok(None);
-                    }
-                    pool = self.returned.sleep(patience, pool);
-                }
+            if pool.has_ended() {
+                return Err(Fault::Closed);
             }
+            if patience.is_over() {
+                return Ok(None);
+            }
+            pool = self.returned.sleep(patience, pool);
         }
         unreachable!()
+    }
+
+    // A pass of the pool that is free, or a new one: `None` where all are lent, and the pool has some.
+    fn lend<R: Wait>(&self, rt: &R, pool: &mut Pool<N>) -> Result<Option<Pass<N>>, Fault>
+        ensures refused { IfErr result (λ fault. (fault ≡ Fault.NoSeat) ⊎ (fault ≡ Fault.Memory)) }
+        ensures none { result ≡ Ok None → vec_len pool.new.free ≡ 0 }
+    {
+        if let Some(pass) = pool.free.pop() {
+            return Ok(Some(pass));
+        }
+        pool.free.reserve(MOST_PASSES as usize)?;
+        match self.new_for_pool(rt, pool) {
+            Ok(pass) => Ok(Some(pass)),
+            Err(fault) if pool.owned == 0 => Err(fault),
+            Err(_) => Ok(None),
+        }
     }
 
     // A new pass, where the pool has room for all, so that none is lost.
@@ -108,8 +133,7 @@ impl<D: Disk + Drop, N: StoreNaming, T: Invariants + Drop, S: StoredSteps + Drop
         ensures pool { pool.new ≡ record pool.old { owned = pool.new.owned } }
     {
         let mut pass = self.pass(rt)?;
-        pass.is_pooled = true;
-        pool.owned = pool.owned.saturating_add(1);
+        pool.take_over(&mut pass);
         Ok(pass)
     }
 
@@ -118,15 +142,14 @@ impl<D: Disk + Drop, N: StoreNaming, T: Invariants + Drop, S: StoredSteps + Drop
     pub fn release_pass<R: Wait>(&self, rt: &R, mut pass: Pass<N>) -> Result<(), Fault>
         ensures refused { IfErr result (λ fault. fault ≡ Fault.Memory) }
     {
-        let mut pool = self.pool.lock(rt);
+        let mut held = self.pool.lock(rt);
+        let pool = &mut *held;
         if !pass.is_pooled {
-            let missing = (MOST_PASSES as usize).saturating_sub(pool.free.len());
-            pool.free.reserve(missing)?;
-            pass.is_pooled = true;
-            pool.owned = pool.owned.saturating_add(1);
+            pool.make_room()?;
+            pool.take_over(&mut pass);
         }
         pool.free.push(pass)?;
-        self.returned.tell_one(pool);
+        self.returned.tell_one(held);
         Ok(())
     }
 

@@ -46,16 +46,17 @@ impl<D: Disk + Drop, N: StoreNaming, T: Invariants + Drop, S: StoredSteps + Drop
         ensures knows { KnowsMore pass.old pass.new }
         ensures memory { IfErr result (λ fault. fault ≡ Fault.Memory) }
     {
-        let mut core = self.core.lock(rt);
+        let mut held = self.core.lock(rt);
+        let core = &mut *held;
         let _count = core.meet(&self.spine, &mut pass.seat);
         let Some(shape) = shape_of(&self.shapes, name) else {
             return Ok(None);
         };
-        let values = match self.last_test(rt, &core, &mut pass.cursor, plan, name)? {
+        let values = match self.last_test(rt, core, &mut pass.cursor, plan, name)? {
             Some(values) => values,
-            None => at_end(&core, &pass.cursor.attempt().effect.writes, shape),
+            None => at_end(core, &pass.cursor.attempt().effect.writes, shape),
         };
-        self.told_where_false(&core, shape, values)
+        self.told_where_false(core, shape, values)
     }
 
     /// The same of an attempt that was made elsewhere and ended normally: what its end makes of the footprint.
@@ -71,13 +72,14 @@ impl<D: Disk + Drop, N: StoreNaming, T: Invariants + Drop, S: StoredSteps + Drop
         ensures knows { KnowsMore pass.old pass.new }
         ensures memory { IfErr result (λ fault. fault ≡ Fault.Memory) }
     {
-        let mut core = self.core.lock(rt);
+        let mut held = self.core.lock(rt);
+        let core = &mut *held;
         let _count = core.meet(&self.spine, &mut pass.seat);
         let Some(shape) = shape_of(&self.shapes, name) else {
             return Ok(None);
         };
-        let values = at_end(&core, &attempt.effect.writes, shape);
-        self.told_where_false(&core, shape, values)
+        let values = at_end(core, &attempt.effect.writes, shape);
+        self.told_where_false(core, shape, values)
     }
 
     // Evaluates a plan in place, from its start to its end. Answers the values of the test that left it, where one of the invariant of

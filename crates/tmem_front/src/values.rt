@@ -1,6 +1,6 @@
 // What a store has at one moment.
-ghost use Rattle.std.specs.Prelude.{◌≡◌, ◌++◌, Some, false, IfOk, IfErr, OnOk, MatchBool, map, nat_le, slice_get};
-ghost use Rattle.std.specs.List.{list_any};
+ghost use Rattle.std.specs.Prelude.{◌≡◌, ◌<◌, ◌++◌, Some, false, IfOk, IfErr, OnOk, MatchBool, length, map, nat_le, slice_get};
+ghost use Rattle.std.specs.List.{All, list_any};
 ghost use Rattle.tmem_effect.specs.Names.{has_name};
 ghost use Rattle.tmem_effect.specs.Prefix.{IsPrefix};
 ghost use Rattle.tmem_spine.specs.History.{count};
@@ -87,12 +87,31 @@ impl<D: Disk + Drop, N: StoreNaming, T: Invariants + Drop, S: StoredSteps + Drop
         if has_other(vars, self.vars) {
             return Err(Fault::BadPlan(Cause::BadVariable));
         }
+        self.moment_of(rt, pass, vars, names)
+    }
+
+    // The same where each variable is there: what takes memory is made before the core's lock is taken.
+    fn moment_of<R: Wait>(
+        &self,
+        rt: &R,
+        pass: &mut Pass<N>,
+        vars: &[u16],
+        names: &[Name],
+    ) -> Result<Moment, Fault>
+        requires { All (λ var. var < length N.opening.values) vars.now }
+        ensures count { IfOk result (λ moment. moment.count ≡ count N.name.start pass.new.known) }
+        ensures values { IfOk result (λ moment. map (λ n. Some n) moment.values.items ≡ map (λ var. slice_get (state_after_history N.opening pass.new.known).values var) vars.now) }
+        ensures has { IfOk result (λ moment. moment.has.items ≡ map (λ name. has_name (state_after_history N.opening pass.new.known).names name) names.now) }
+        ensures knows { KnowsMore pass.old pass.new }
+        ensures memory { IfErr result (λ fault. fault ≡ Fault.Memory) }
+    {
         let mut values = Vec::with_capacity(self.alloc, vars.len())?;
         let mut has = Vec::with_capacity(self.alloc, names.len())?;
-        let mut core = self.core.lock(rt);
+        let mut held = self.core.lock(rt);
+        let core = &mut *held;
         let count = core.meet(&self.spine, &mut pass.seat);
         core.peek_all(vars, &mut values)?;
-        push_registered(&core, names, &mut has)?;
+        push_registered(core, names, &mut has)?;
         Ok(Moment { count, values, has })
     }
 }

@@ -119,7 +119,7 @@ impl<D: Disk + Drop, N: StoreNaming, T: Invariants + Drop, S: StoredSteps + Drop
                 waits_for_room,
             };
             let answer = self.take_turn(rt, patience, &mut pass.seat, &mut pass.cursor, plan, how);
-            if is_last(&answer, waits_for_room) || is_waited_for(&answer) && is_late {
+            if is_done(&answer, waits_for_room, is_late) {
                 return whole(answer, &pass.cursor);
             }
             left = conflicts_left(left, &answer);
@@ -398,6 +398,16 @@ fn conflicts_left(left: u32, answer: &Result<Decision, Fault>) -> u32 {
         Err(Fault::Conflict) => left.saturating_sub(1),
         _ => MOST_CONFLICTS,
     }
+}
+
+// Whether this answer is told: it is the last one, or the plan would wait and the patience was over.
+fn is_done(answer: &Result<Decision, Fault>, waits_for_room: bool, is_late: bool) -> bool
+    ensures no_conflict { (registers : List ℤ) → IsTrue result → answer_of answer.now registers ≢ Err Fault.Conflict }
+    ensures no_retry { (registers : List ℤ) → IsTrue result → is_late ≡ false → answer_of answer.now registers ≢ Ok Settled.Retry }
+    ensures no_full { (registers : List ℤ) → IsTrue result → is_late ≡ false → waits_for_room ≡ true → answer_of answer.now registers ≢ Err Fault.Full }
+    ensures again { (registers : List ℤ) (effect : EffectOf) → result ≡ false → committed_by (answer_of answer.now registers) effect ≡ [] }
+{
+    is_last(answer, waits_for_room) || is_waited_for(answer) && is_late
 }
 
 // Whether a plan waits after this answer until it is attempted again.

@@ -1,5 +1,5 @@
 use Rattle.std.proofs.Common.{◌<◌, ℕ, length, ap, subst, ◌∙◌}
-use Rattle.tmem_tentative.specs.Cursors.{outcome_of, attempt_of, probe_of, given, answers}
+use Rattle.tmem_tentative.specs.Cursors.{Answered, outcome_of, attempt_of, probe_of, given, answers}
 use Rattle.tmem_tentative.specs.Fits.{IsForVariables, IsWithinVariables, IsNamed, IsFilled}
 use Rattle.tmem_tentative.specs.Right.{IsOutcome}
 use Rattle.tmem_tree.proofs.Laws.{footprint_in-AreMeant}
@@ -55,3 +55,23 @@ loop-preserved-in-Need g c =
 
 pub advance-requires-clause-stands : goal.advance-requires-clause-stands
 advance-requires-clause-stands g c = c.loop.invariant.stands
+
+pub loop-preserved : goal.loop-preserved
+loop-preserved g c =
+    let tests = g.N.ProgramNaming.program.tests in
+    record {
+      stands = λ m stated. c.answer.ensures.stands m c.args.plan.now (c.advance.ensures.stands m stated);
+      at = λ m stated. c.answer.ensures.at m tests c.args.plan.now.tree (c.advance.ensures.at m tests stated c.requires.shapes (c.loop.invariant.at m stated)) (c.probe-held.ensures ∙ ap (λ p. tests.test p.name p.values) c.probe.ensures);
+    }
+
+pub give-requires : goal.give-requires
+give-requires g c = subst (λ p. Answered c.advance.new.self p) c.in-Need.is c.in_ok-var.ensures.answered
+
+pub probe-requires : goal.probe-requires
+probe-requires g c = subst (λ p. Answered c.advance.new.self p) c.in-Probe.is c.in_ok-var.ensures.answered
+
+pub answer-requires : goal.answer-requires
+answer-requires g c = subst (λ p. Answered c.advance.new.self p) c.in-Probe.is c.in_ok-var.ensures.answered
+
+pub returns-in-Ended-clause-ended : goal.returns-in-Ended-clause-ended
+returns-in-Ended-clause-ended g c = subst (λ p. Answered c.advance.new.self p) c.in-Ended.is c.in_ok-var.ensures.answered

@@ -1,5 +1,5 @@
 use Rattle.std.proofs.Common.{◌<◌, ℕ, length, ap, subst, ◌∙◌}
-use Rattle.tmem_tentative.specs.Cursors.{outcome_of, probe_of}
+use Rattle.tmem_tentative.specs.Cursors.{Answered, outcome_of, probe_of}
 use Rattle.tmem_tentative.specs.Fits.{IsWithinVariables, IsNamed, IsFilled}
 use Rattle.tmem_tree.proofs.Laws.{footprint_in-AreMeant}
 use Rattle.tmem_front.proofs.Refused.{some_filled}
@@ -41,3 +41,21 @@ loop-preserved-in-Need g c = record {
   stands = λ m stated. c.give.ensures.stands m c.args.plan.now (c.advance.ensures.stands m stated);
   filled = c.loop.invariant.filled;
 }
+
+pub give-requires : goal.give-requires
+give-requires g c = subst (λ p. Answered c.advance.new.self p) c.in-Need.is c.in_ok-var.ensures.answered
+
+pub probe-requires : goal.probe-requires
+probe-requires g c = subst (λ p. Answered c.advance.new.self p) c.in-Probe.is c.in_ok-var.ensures.answered
+
+pub probe-requires-in-Probe : goal.probe-requires-in-Probe
+probe-requires-in-Probe g c = subst (λ p. Answered c.advance.new.self p) c.in-Probe.is c.in_ok-var.ensures.answered
+
+pub answer-requires : goal.answer-requires
+answer-requires g c = subst (λ p. Answered c.advance.new.self p) c.in-Probe.is c.in_ok-var.ensures.answered
+
+pub returns-in-Ended-clause-ended : goal.returns-in-Ended-clause-ended
+returns-in-Ended-clause-ended g c = subst (λ p. Answered c.advance.new.self p) c.in-Ended.is c.in_ok-var.ensures.answered
+
+pub returns-in-Ended-clause-filled : goal.returns-in-Ended-clause-filled
+returns-in-Ended-clause-filled g c = c.loop.invariant.filled

@@ -19,7 +19,7 @@ returns-clause-end g c =
     let meant = meant_among tests c.deref.result.now shape (rw c.deref.ensures.value c.args.self.now.meant) c.in-Some.ensures.among in
     let writes = c.args.attempt.now.effect.writes in
     let committed = c.meet-count.new.self.committed in
-    let ends : map (λ (n : ℤ). Some n) c.at_end-values.result ≡ map (end_value (state_after_history g.N.StoreNaming.opening committed).values writes) shape.footprint = rw (← c.deref-2.ensures) c.at_end-values.ensures.values in
+    let ends : map (λ (n : ℤ). Some n) c.at_end-values.result ≡ map (end_value (state_after_history g.N.StoreNaming.opening committed).values writes) shape.footprint = c.at_end-values.ensures.values in
     let known : c.meet-count.new.seat.known ≡ committed = ap (λ (p : PassRoleView). p.known) c.meet-count.ensures.pass in
     subst (λ log. IfOk c.told_where_false.result (λ found. IfSome found (λ values. AreEndValues (state_after_history g.N.StoreNaming.opening log).values writes values.items))) (sym known)
     (ends_told (λ values. values.items) tests shape.name _ writes shape.footprint c.at_end-values.result c.told_where_false.result c.told_where_false.ensures.why c.told_where_false.ensures.same meant ends)

@@ -1,8 +1,9 @@
 use Rattle.std.proofs.Common.{ℤ, Some, length, ap, sym, ◌∙◌, subst, rules, w64}
 use Rattle.std.proofs.Math.Facts.{to_z-of_z}
 use Rattle.tmem_core.specs.SettleAnswer.{is_stale}
-use Rattle.tmem_tentative.specs.Cursors.{outcome_of, probe_of}
+use Rattle.tmem_tentative.specs.Cursors.{Answered, outcome_of, probe_of, given, answers}
 use Rattle.tmem_tentative.specs.Fits.{IsWithinVariables, IsNamed, IsFilled}
+use Rattle.tmem_tentative.specs.Right.{IsOutcome}
 use Rattle.tmem_seats.specs.Histories.{state_after_history}
 use Rattle.tmem_tree.proofs.Laws.{footprint_in-AreMeant}
 use Rattle.tmem_seats.proofs.Present.{present_more}
@@ -49,3 +50,37 @@ pub returns-in-Ended-clause-names : goal.returns-in-Ended-clause-names
 returns-in-Ended-clause-names g c =
     let names = g.N.ProgramNaming.program.names in
     subst (λ p. IsNamed names (outcome_of c.advance.new.self p)) c.in-Ended.is (c.in_ok-var.ensures.named names c.requires.names)
+
+pub loop-preserved : goal.loop-preserved
+loop-preserved g c =
+    let tests = g.N.ProgramNaming.program.tests in
+    record {
+      stands = λ m stated. c.answer.ensures.stands m c.args.plan.now (c.advance.ensures.stands m stated);
+      at = λ m stated. c.answer.ensures.at m tests c.args.plan.now.tree (c.advance.ensures.at m tests stated c.requires.shapes (c.loop.invariant.at m stated)) (c.probe-held.ensures ∙ ap (λ p. tests.test p.name p.values) c.probe.ensures);
+      present = ap (λ l. is_stale (state_after_history g.N.StoreNaming.opening c.args.self.now.committed) l) (c.answer.ensures.given ∙ c.advance.ensures.given) ∙ c.loop.invariant.present;
+    }
+
+pub give-requires : goal.give-requires
+give-requires g c = subst (λ p. Answered c.advance.new.self p) c.in-Need.is c.in_ok-var.ensures.answered
+
+pub probe-requires : goal.probe-requires
+probe-requires g c = subst (λ p. Answered c.advance.new.self p) c.in-Probe.is c.in_ok-var.ensures.answered
+
+pub answer-requires : goal.answer-requires
+answer-requires g c = subst (λ p. Answered c.advance.new.self p) c.in-Probe.is c.in_ok-var.ensures.answered
+
+pub advance-requires-clause-stands : goal.advance-requires-clause-stands
+advance-requires-clause-stands g c = c.loop.invariant.stands
+
+pub returns-in-Ended-clause-ended : goal.returns-in-Ended-clause-ended
+returns-in-Ended-clause-ended g c = subst (λ p. Answered c.advance.new.self p) c.in-Ended.is c.in_ok-var.ensures.answered
+
+pub returns-in-Ended-clause-right : goal.returns-in-Ended-clause-right
+returns-in-Ended-clause-right g c = λ m stated.
+    let tests = g.N.ProgramNaming.program.tests in
+    let self = c.advance.new.self in
+    (subst (λ p. IsOutcome m tests c.args.plan.now.tree (given self) (length (answers self)) (outcome_of self p)) c.in-Ended.is (c.in_ok-var.ensures.right m tests stated c.requires.shapes (c.loop.invariant.at m stated))).1
+
+pub returns-in-Ended-clause-present : goal.returns-in-Ended-clause-present
+returns-in-Ended-clause-present g c =
+    ap (λ l. is_stale (state_after_history g.N.StoreNaming.opening c.args.self.now.committed) l) c.advance.ensures.given ∙ c.loop.invariant.present

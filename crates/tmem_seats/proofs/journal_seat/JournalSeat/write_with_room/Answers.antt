@@ -41,3 +41,13 @@ returns-in_ok-checkpoint-in-Err-LogFull-clause-any_moment g c =
     both_times (journal_device seat.journal) (journal_device roomy.journal) (journal_device new.journal) _ _ c.write-in-Err-LogFull.ensures.uses.model
     (subst (λ j. (journal_device roomy.journal).keeps_model → (journal_device j).moment ≤ (journal_device roomy.journal).moment) same c.checkpoint.ensures.elsewhere.time.later)
     c.write-in-Err-LogFull.ensures.elsewhere.time first second
+
+pub returns-in_err-checkpoint-in-Err-LogFull-clause-aimed : goal.returns-in_err-checkpoint-in-Err-LogFull-clause-aimed
+returns-in_err-checkpoint-in-Err-LogFull-clause-aimed g c =
+    let aimed : c.checkpoint.new.self.side.aimed ≡ c.args.self.now.side.aimed = ap (λ v. v.aimed) c.checkpoint.ensures.side.0 ∙ c.in-Err-LogFull.ensures.aimed in
+    aimed
+
+pub returns-in_ok-checkpoint-in-Err-LogFull-clause-aimed : goal.returns-in_ok-checkpoint-in-Err-LogFull-clause-aimed
+returns-in_ok-checkpoint-in-Err-LogFull-clause-aimed g c =
+    let aimed : c.checkpoint.new.self.side.aimed ≡ c.args.self.now.side.aimed = ap (λ v. v.aimed) c.checkpoint.ensures.side.0 ∙ c.in-Err-LogFull.ensures.aimed in
+    c.write-in-Err-LogFull.ensures.aimed ∙ aimed
