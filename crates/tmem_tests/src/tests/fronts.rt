@@ -472,24 +472,6 @@ fn must_end(rt: &impl Abort, (call, task): (Call, Task), had: Ends, want: Ends) 
     assert!(rt; had == want, "{task:?} by {call:?} ends so: {had:?}");
 }
 
-/// How a task ends by a call, where so many were committed before.
-fn play_once<
-    D: Disk + Drop,
-    N: StoreNaming,
-    T: Invariants + Drop,
-    S: StoredSteps + Drop,
-    R: Clock + Wait,
->(
-    rt: &R,
-    alloc: Global,
-    front: &Front<D, N, T, S>,
-    pass: &mut Pass<N>,
-    (call, task): (Call, Task),
-    committed: u64,
-) -> Result<Ends, Fault> {
-    end_by(rt, front, pass, task.tx(alloc)?, call, committed)
-}
-
 /// Plays a row, and answers how many are committed then.
 fn play_row<
     D: Disk + Drop,
@@ -508,25 +490,10 @@ fn play_row<
     let (calls, task, times, want) = *row;
     for call in calls {
         for _ in 0..times {
-            let had = play_once(rt, alloc, front, pass, (*call, task), committed)?;
+            let had = end_by(rt, front, pass, task.tx(alloc)?, *call, committed)?;
             must_end(rt, (*call, task), had, want);
             committed = committed.wrapping_add(u64::from(had == Ends::Commits));
         }
-    }
-    Ok(committed)
-}
-
-/// Plays the rows, and answers how many are committed then.
-fn play_rows<
-    D: Disk + Drop,
-    N: StoreNaming,
-    T: Invariants + Drop,
-    S: StoredSteps + Drop,
-    R: Abort + Clock + Wait,
->(rt: &R, alloc: Global, front: &Front<D, N, T, S>, pass: &mut Pass<N>) -> Result<u64, Fault> {
-    let mut committed = 0u64;
-    for row in ROWS {
-        committed = play_row(rt, alloc, front, pass, row, committed)?;
     }
     Ok(committed)
 }
@@ -539,7 +506,10 @@ fn play<
     S: StoredSteps + Drop,
     R: Abort + Clock + Wait,
 >(rt: &R, alloc: Global, front: &Front<D, N, T, S>, pass: &mut Pass<N>) -> Result<(), Fault> {
-    let committed = play_rows(rt, alloc, front, pass)?;
+    let mut committed = 0u64;
+    for row in ROWS {
+        committed = play_row(rt, alloc, front, pass, row, committed)?;
+    }
     assert!(rt; committed == 256);
     ask_why(rt, alloc, front, pass)
 }

@@ -45,15 +45,6 @@ fn fill<T: Invariants + Drop, S: StoredSteps + Drop>(
     commit_all(rt, alloc, world, 0, true)?;
     let refused = Settled::Refused(numbered(0)?);
     commit_to(rt, world, write(alloc, 15, -1)?, Reply::Settled(refused));
-    fill_on(rt, alloc, world)
-}
-
-/// Commits until 64 records wait, of which there are 8.
-fn fill_on<T: Invariants + Drop, S: StoredSteps + Drop>(
-    rt: &impl Abort,
-    alloc: Global,
-    world: &mut World<SimDisk, T, S>,
-) -> Result<(), Fault> {
     for number in 8..64u32 {
         let value = i64::from(number);
         commit_to(
@@ -72,19 +63,12 @@ fn flush_and_reopen<T: Invariants + Drop, S: StoredSteps + Drop>(
     alloc: Global,
     world: &mut World<SimDisk, T, S>,
 ) -> Result<(), Fault> {
-    assert!(rt; finds_flushed(alloc, world)?);
-    assert!(rt; has_all(world)?);
-    Ok(())
-}
-
-fn finds_flushed<T: Invariants + Drop, S: StoredSteps + Drop>(
-    alloc: Global,
-    world: &mut World<SimDisk, T, S>,
-) -> Result<bool, Fault> {
     let events = vec![in alloc; Event::Flush, Event::Reopen, Event::Look]?;
     let had = world.play(events)?;
     let want = [Reply::Durable(64), Reply::Opened(64), Reply::Looked(64)];
-    Ok(had.as_slice() == want.as_slice())
+    assert!(rt; had.as_slice() == want.as_slice());
+    assert!(rt; has_all(world)?);
+    Ok(())
 }
 
 /// Finds them, and again after a checkpoint.
@@ -96,15 +80,6 @@ fn checkpoint_and_reopen<T: Invariants + Drop, S: StoredSteps + Drop>(
     step_to(rt, world, Event::Look, Reply::Looked(64));
     assert!(rt; has_all(world)?);
     step_to(rt, world, Event::Checkpoint, Reply::Checkpointed);
-    reopen(rt, alloc, world)
-}
-
-/// Finds them in an image.
-fn reopen<T: Invariants + Drop, S: StoredSteps + Drop>(
-    rt: &impl Abort,
-    alloc: Global,
-    world: &mut World<SimDisk, T, S>,
-) -> Result<(), Fault> {
     step_to(rt, world, Event::Reopen, Reply::Opened(64));
     assert!(rt; has_all(world)?);
     commit_to(rt, world, write(alloc, 0, 1)?, committed(64, 1));
