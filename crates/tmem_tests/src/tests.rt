@@ -83,7 +83,10 @@ fn commit_to<T: Invariants + Drop, S: StoredSteps + Drop>(
     tx: Tx,
     want: Reply,
 ) {
-    let had = commit(world, tx);
+    must_be(rt, &commit(world, tx), &want);
+}
+
+fn must_be(rt: &impl Abort, had: &Reply, want: &Reply) {
     assert!(rt; had == want, "{had:?} where {want:?} was wanted");
 }
 
@@ -96,6 +99,5 @@ fn step_to<T: Invariants + Drop, S: StoredSteps + Drop>(
 )
     requires { NamesAttempt event }
 {
-    let had = world.step(event);
-    assert!(rt; had == want, "{had:?} where {want:?} was wanted");
+    must_be(rt, &world.step(event), &want);
 }

@@ -214,34 +214,31 @@ impl Task {
     pub(super) fn tx(&self, alloc: Global) -> Result<Tx, AllocError> {
         match *self {
             Task::Write(var, number) => write(alloc, var, number),
-            Task::AddOne => long(alloc, add_one(alloc)?),
             Task::Copy => copy(alloc),
-            Task::NeedOne => long(alloc, need_one(alloc, 2)?),
             Task::WriteBoth(var, other, number) => write_both(alloc, var, other, number),
-            Task::NeedEither(var, other) => long(alloc, need_either(alloc, var, other)?),
             Task::WaitForEither(var, other) => wait_for_either(alloc, var, other),
             Task::Never => Ok(Tx::Retry),
             Task::Choose => choose(alloc),
             Task::Abort(code) => Ok(Tx::Abort { code }),
-            Task::NeedLast(var) => long(alloc, need_last(alloc, var)?),
-            Task::AddBehind(var, least, other) => long(
-                alloc,
-                add_behind(alloc, var, least, other)?,
-            ),
             Task::WriteEach(number) => write_each(alloc, number),
-            Task::AddOnceThereIsOne => {
-                let (first, second) = (add_one(alloc)?, need_one(alloc, 2)?);
-                long(alloc, Tx::Seq(vec![in alloc; first, second]?))
-            }
             Task::Register => Ok(check()),
             Task::ReadAndRegister => read_and_register(alloc),
-            Task::AddAndRegister => {
-                long(alloc, Tx::Seq(vec![in alloc; add_one(alloc)?, check()]?))
-            }
             Task::Retire => Ok(retire()),
-            Task::WriteAndRetire(var, number) => {
-                Ok(Tx::Seq(vec![in alloc; write(alloc, var, number)?, retire()]?))
-            }
+            Task::WriteAndRetire(var, number) => both(alloc, write(alloc, var, number)?, retire()),
+            _ => long(alloc, self.stepping(alloc)?),
+        }
+    }
+
+    // What a long plan does: it calls a step.
+    fn stepping(&self, alloc: Global) -> Result<Tx, AllocError> {
+        match *self {
+            Task::NeedOne => need_one(alloc, 2),
+            Task::NeedEither(var, other) => need_either(alloc, var, other),
+            Task::NeedLast(var) => need_last(alloc, var),
+            Task::AddBehind(var, least, other) => add_behind(alloc, var, least, other),
+            Task::AddOnceThereIsOne => both(alloc, add_one(alloc)?, need_one(alloc, 2)?),
+            Task::AddAndRegister => both(alloc, add_one(alloc)?, check()),
+            _ => add_one(alloc),
         }
     }
 }
@@ -255,6 +252,16 @@ fn long(alloc: Global, tx: Tx) -> Result<Tx, AllocError> {
     Ok(Tx::Seq(txs))
 }
 
+// One behind the other.
+fn both(alloc: Global, first: Tx, second: Tx) -> Result<Tx, AllocError> {
+    Ok(Tx::Seq(vec![in alloc; first, second]?))
+}
+
+// The second where the first retries.
+fn either(alloc: Global, first: Tx, second: Tx) -> Result<Tx, AllocError> {
+    Ok(Tx::OrElse(Box::new(alloc, first)?, Box::new(alloc, second)?))
+}
+
 fn check() -> Tx {
     Tx::Check { name: always() }
 }
@@ -264,11 +271,15 @@ fn retire() -> Tx {
 }
 
 fn write(alloc: Global, var: u16, number: i64) -> Result<Tx, AllocError> {
-    Ok(Tx::Seq(vec![in alloc; Tx::Put { reg: 0, number }, Tx::Write { var, reg: 0 }]?))
+    both(alloc, Tx::Put { reg: 0, number }, Tx::Write { var, reg: 0 })
 }
 
 fn copy(alloc: Global) -> Result<Tx, AllocError> {
-    Ok(Tx::Seq(vec![in alloc; Tx::Read { var: 0, reg: 0 }, Tx::Write { var: 1, reg: 0 }]?))
+    both(
+        alloc,
+        Tx::Read { var: 0, reg: 0 },
+        Tx::Write { var: 1, reg: 0 },
+    )
 }
 
 fn add_one(alloc: Global) -> Result<Tx, AllocError> {
@@ -291,8 +302,7 @@ fn add_to(alloc: Global, var: u16) -> Result<Tx, AllocError> {
 }
 
 fn add_behind(alloc: Global, var: u16, least: i64, other: u16) -> Result<Tx, AllocError> {
-    let (first, second) = (need(alloc, var, least)?, add_to(alloc, other)?);
-    Ok(Tx::Seq(vec![in alloc; first, second]?))
+    both(alloc, need(alloc, var, least)?, add_to(alloc, other)?)
 }
 
 fn read_and_register(alloc: Global) -> Result<Tx, AllocError> {
@@ -327,27 +337,27 @@ fn write_each(alloc: Global, number: i64) -> Result<Tx, AllocError> {
 }
 
 fn write_both(alloc: Global, var: u16, other: u16, number: i64) -> Result<Tx, AllocError> {
-    let (first, second) = (write(alloc, var, number)?, write(alloc, other, number)?);
-    Ok(Tx::Seq(vec![in alloc; first, second]?))
+    both(
+        alloc,
+        write(alloc, var, number)?,
+        write(alloc, other, number)?,
+    )
 }
 
 fn need_either(alloc: Global, var: u16, other: u16) -> Result<Tx, AllocError> {
-    let (first, second) = (need_one(alloc, var)?, need_one(alloc, other)?);
-    Ok(Tx::OrElse(Box::new(alloc, first)?, Box::new(alloc, second)?))
+    either(alloc, need_one(alloc, var)?, need_one(alloc, other)?)
 }
 
 fn choose(alloc: Global) -> Result<Tx, AllocError> {
     let mut tx = Tx::Retry;
     for _ in 0..30 {
-        tx = Tx::OrElse(Box::new(alloc, tx)?, Box::new(alloc, Tx::Retry)?);
+        tx = either(alloc, tx, Tx::Retry)?;
     }
-    let last = write(alloc, 0, 1)?;
-    Ok(Tx::OrElse(Box::new(alloc, tx)?, Box::new(alloc, last)?))
+    either(alloc, tx, write(alloc, 0, 1)?)
 }
 
 fn wait_for_either(alloc: Global, var: u16, other: u16) -> Result<Tx, AllocError> {
-    let (first, second) = (wait_for(alloc, var)?, wait_for(alloc, other)?);
-    Ok(Tx::OrElse(Box::new(alloc, first)?, Box::new(alloc, second)?))
+    either(alloc, wait_for(alloc, var)?, wait_for(alloc, other)?)
 }
 
 fn wait_for(alloc: Global, var: u16) -> Result<Tx, AllocError> {
@@ -357,7 +367,7 @@ fn wait_for(alloc: Global, var: u16) -> Result<Tx, AllocError> {
         then,
         other,
     };
-    Ok(Tx::Seq(vec![in alloc; Tx::Read { var, reg: 0 }, when]?))
+    both(alloc, Tx::Read { var, reg: 0 }, when)
 }
 
 fn need_one(alloc: Global, var: u16) -> Result<Tx, AllocError> {

@@ -135,6 +135,18 @@ impl<D: Disk + Drop, N: StoreNaming, T: Invariants + Drop, S: StoredSteps + Drop
         match step {
             Move::Attempt(task) => self.attempt(stage, &mut hands.kept, task),
             Move::Settle => self.settle(stage, hands),
+            other => self.answer_with(stage, hands, other),
+        }
+    }
+
+    // Plays a move that takes a pass in hand or lets it go.
+    fn answer_with<R: Clock + Wait>(
+        &self,
+        stage: &Stage<R>,
+        hands: &mut Hands<N>,
+        step: Move,
+    ) -> Answer {
+        match step {
             Move::NewPass => Answer::done(self.take_pass(stage, &mut hands.pass)),
             Move::Acquire => Answer::done(self.acquire(stage, &mut hands.pass)),
             Move::AcquireWithin(millis) => self.acquire_within(stage, &mut hands.pass, millis),
@@ -168,19 +180,43 @@ impl<D: Disk + Drop, N: StoreNaming, T: Invariants + Drop, S: StoredSteps + Drop
             Move::Add(times) => self.add(stage, pass, times),
             Move::CommitWithin(task, millis) => self.commit_within(stage, pass, task, millis),
             Move::AddWithRoom(times) => self.add_with_room(stage, pass, times),
+            other => self.answer_durably(stage, pass, other),
+        }
+    }
+
+    // Plays a move by a pass that flushes, or waits for a flush.
+    fn answer_durably<R: Clock + Wait>(
+        &self,
+        stage: &Stage<R>,
+        pass: &mut Pass<N>,
+        step: Move,
+    ) -> Answer {
+        match step {
             Move::CommitDurable(task) => self.commit_durable(stage, pass, task),
             Move::AddDurably(times) => self.add_durably(stage, pass, times),
             Move::CommitAndFlush(times) => self.commit_and_flush(stage, pass, times),
+            Move::Await(number) => self.await_durable(stage, pass, number),
+            Move::AwaitWithin(number, millis) => self.await_within(stage, pass, number, millis),
+            Move::FlushAll => Answer::number(self.front.flush_all(stage.rt, pass)),
+            other => self.answer_seen(stage, pass, other),
+        }
+    }
+
+    // Plays a move by a pass that asks what there is.
+    fn answer_seen<R: Clock + Wait>(
+        &self,
+        stage: &Stage<R>,
+        pass: &mut Pass<N>,
+        step: Move,
+    ) -> Answer {
+        match step {
             Move::Look => Answer::Number(self.front.look(pass)),
             Move::Seen => Answer::Number(pass.seen()),
             Move::Vouch(number) => self.vouch(stage, pass, number),
-            Move::Await(number) => self.await_durable(stage, pass, number),
-            Move::AwaitWithin(number, millis) => self.await_within(stage, pass, number, millis),
             Move::Count => Answer::Number(self.front.count(stage.rt, pass)),
             Move::HasInvariant => Answer::Holds(self.front.has(stage.rt, pass, &always())),
             Move::ValuesAre(vars, want) => self.values_are(stage, pass, &vars, &want),
             Move::CountValues(most) => Answer::number(self.count_values(stage, pass, most)),
-            Move::FlushAll => Answer::number(self.front.flush_all(stage.rt, pass)),
             other => self.answer_alone(stage, other),
         }
     }
@@ -197,13 +233,18 @@ impl<D: Disk + Drop, N: StoreNaming, T: Invariants + Drop, S: StoredSteps + Drop
             Move::Checkpoint => Answer::done(self.front.checkpoint(stage.rt)),
             Move::Shut => self.shut(stage),
             Move::Close => Answer::done(self.front.close(stage.rt)),
-            Move::FaultOf => match self.front.fault(stage.rt) {
-                Some(fault) => Answer::refused(fault),
-                None => Answer::Nothing,
-            },
+            Move::FaultOf => self.fault_of(stage),
             Move::LooksAtMost(most) => Answer::Holds(self.front.looks(stage.rt) <= most),
             Move::LooksAtLeast(least) => Answer::Holds(self.front.looks(stage.rt) >= least),
             other => stage.answer(other),
+        }
+    }
+
+    // The fault that shut the store.
+    fn fault_of<R: Wait>(&self, stage: &Stage<R>) -> Answer {
+        match self.front.fault(stage.rt) {
+            Some(fault) => Answer::refused(fault),
+            None => Answer::Nothing,
         }
     }
 

@@ -5,7 +5,7 @@ ghost use Rattle.tmem_front.specs.Held.{front_found, spine_of, front_steps, fron
 ghost use Rattle.tmem_tests.specs.Examples.{checked_program};
 ghost use Rattle.tmem_tree.specs.Plans.{FitsSteps, FitsVariables, FitsNames, FitsShapes};
 
-use super::{formatted, write};
+use super::formatted;
 use std::alloc::{AllocError, Global};
 use std::marker::Brand;
 use std::process::Abort;
@@ -19,6 +19,7 @@ use tmem_fault::Fault;
 use tmem_front::{Front, OpenedFront, Pass, StoreNaming};
 use tmem_invariants::Invariants;
 use tmem_tables::{Invariant, Table};
+use tmem_tentative::Attempt;
 use tmem_tree::{Plan, StoredSteps, Tx};
 use tmem_world::Settled;
 
@@ -88,7 +89,9 @@ enum Ends {
 }
 
 /// By which calls what is settled, how often by each, and how it ends.
-const ROWS: &[(&[Call], Task, u32, Ends)] = &[
+type Row = (&'static [Call], Task, u32, Ends);
+
+const ROWS: &[Row] = &[
     (ALL, Task::EachForm(1), 1, Ends::Aborts(7)),
     (ALL, Task::Largest(-1), 1, Ends::Breaks),
     (ALL, Task::Reads, 1, Ends::SeesNothing),
@@ -103,14 +106,49 @@ const ROWS: &[(&[Call], Task, u32, Ends)] = &[
     (REFUSED_ROOM, Task::Largest(1), 1, Ends::IsFull),
 ];
 
+/// What makes variable 0 a number, and is asked why it is refused.
+#[derive(Clone, Copy)]
+enum Asked {
+    /// A plan that checks then that it is not negative, and makes it 2.
+    PlanThatChecks(i64),
+    Plan(i64),
+    Attempt(i64),
+}
+
+/// By which value of variable 0 it is refused, where that was 1: at the point of its check, and at the end. Some are not.
+const ASKED: &[(Asked, Option<i64>)] = &[
+    (Asked::PlanThatChecks(-7), Some(-7)),
+    (Asked::Plan(-4), Some(-4)),
+    (Asked::Plan(1), None),
+    (Asked::Attempt(-5), Some(-5)),
+    (Asked::Attempt(1), None),
+];
+
 impl Task {
-    fn tx(self, alloc: Global) -> Result<Tx, Fault> {
+    fn tx(self, alloc: Global) -> Result<Tx, AllocError> {
         match self {
-            Task::Write => write(alloc, 0, 1),
-            Task::EachForm(aborts) => Ok(each_form(alloc, aborts)?),
-            Task::Largest(number) => Ok(largest(alloc, number)?),
-            Task::Reads => Ok(reads(alloc)?),
-            Task::ReadsAndChecks => Ok(reads_and_checks(alloc)?),
+            Task::Write => write_number(alloc, 1),
+            Task::EachForm(aborts) => each_form(alloc, aborts),
+            Task::Largest(number) => deepened(alloc, largest(alloc, number)?),
+            Task::Reads => reads(alloc),
+            Task::ReadsAndChecks => reads_and_checks(alloc),
+        }
+    }
+}
+
+impl Asked {
+    fn tx(self, alloc: Global) -> Result<Tx, AllocError> {
+        match self {
+            Asked::PlanThatChecks(number) => check_negative(alloc, number),
+            Asked::Plan(number) => write_number(alloc, number),
+            Asked::Attempt(number) => write_number(alloc, number),
+        }
+    }
+
+    fn what(self) -> &'static str {
+        match self {
+            Asked::Attempt(_) => "an attempt",
+            _ => "a plan",
         }
     }
 }
@@ -144,21 +182,27 @@ fn each_form(alloc: Global, aborts: i64) -> Result<Tx, AllocError> {
     ]?))
 }
 
+/// One of 482 nodes that is 2 deep.
 fn largest(alloc: Global, number: i64) -> Result<Tx, AllocError> {
     let mut all = vec![in alloc; Tx::Put { reg: 0, number }]?;
-    for var in 0..64 {
-        all.push(Tx::Write { var, reg: 0 })?;
+    for at in 0..480 {
+        all.push(node_of_largest(at))?;
     }
-    for _ in 0..8 {
-        all.push(Tx::Retire { name: names()[0] })?;
+    Ok(Tx::Seq(all))
+}
+
+/// The writes come first, then what retires, then the checks, and 400 that do nothing.
+fn node_of_largest(at: u16) -> Tx {
+    match at {
+        0..=63 => Tx::Write { var: at, reg: 0 },
+        64..=71 => Tx::Retire { name: names()[0] },
+        72..=79 => Tx::Check { name: names()[0] },
+        _ => Tx::Skip,
     }
-    for _ in 0..8 {
-        all.push(Tx::Check { name: names()[0] })?;
-    }
-    for _ in 0..400 {
-        all.push(Tx::Skip)?;
-    }
-    let mut tx = Tx::Seq(all);
+}
+
+/// The same in 30 more nodes, one in the other.
+fn deepened(alloc: Global, mut tx: Tx) -> Result<Tx, AllocError> {
     for _ in 0..30 {
         tx = Tx::Seq(vec![in alloc; tx]?);
     }
@@ -182,8 +226,8 @@ fn reads_and_checks(alloc: Global) -> Result<Tx, AllocError> {
     Ok(Tx::Seq(all))
 }
 
-/// Makes variable 0 this number, which is negative.
-fn write_negative(alloc: Global, number: i64) -> Result<Tx, AllocError> {
+/// Makes variable 0 this number.
+fn write_number(alloc: Global, number: i64) -> Result<Tx, AllocError> {
     Ok(Tx::Seq(vec![in alloc; Tx::Put { reg: 0, number }, Tx::Write { var: 0, reg: 0 }]?))
 }
 
@@ -221,11 +265,37 @@ fn settled<
         Call::AttemptAndSettle => attempt_and_settle(rt, front, pass, plan),
         Call::TryAtomically => front.try_atomically(rt, pass, plan),
         Call::Atomically => front.atomically(rt, pass, plan),
+        Call::AtomicallyWithin | Call::AtomicallyWithRoom | Call::CommitDurable => {
+            settled_patiently(rt, front, pass, plan, call)
+        }
+    }
+}
+
+/// The same by one of the three that have a limit, or wait for room or for a flush.
+fn settled_patiently<
+    D: Disk + Drop,
+    N: StoreNaming,
+    T: Invariants + Drop,
+    S: StoredSteps + Drop,
+    R: Clock + Wait,
+>(
+    rt: &R,
+    front: &Front<D, N, T, S>,
+    pass: &mut Pass<N>,
+    plan: &Plan,
+    call: Call,
+) -> Result<Settled, Fault>
+    requires steps { FitsSteps (S.arities front.now.steps) plan.now.tree }
+    requires variables { FitsVariables front.now.vars plan.now }
+    requires names { FitsNames N.program.names plan.now.tree }
+    requires shapes { FitsShapes N.program.tests plan.now }
+{
+    match call {
         Call::AtomicallyWithin => {
             front.atomically_within(rt, pass, plan, Duration::from_secs(60))
         }
         Call::AtomicallyWithRoom => front.atomically_with_room(rt, pass, plan),
-        Call::CommitDurable => front.commit_durable(rt, pass, plan),
+        _ => front.commit_durable(rt, pass, plan),
     }
 }
 
@@ -241,8 +311,10 @@ fn attempt_and_settle<
     requires names { FitsNames N.program.names plan.now.tree }
     requires shapes { FitsShapes N.program.tests plan.now }
 {
-    let attempt = front.attempt(rt, plan)?;
-    front.settle(rt, pass, &attempt)
+    match front.attempt(rt, plan) {
+        Ok(attempt) => front.settle(rt, pass, &attempt),
+        Err(fault) => Err(fault),
+    }
 }
 
 /// How it ended, where so many were committed before.
@@ -271,7 +343,7 @@ fn end_where(is_so: bool, end: Ends) -> Ends {
     if is_so { end } else { Ends::Otherwise }
 }
 
-/// How a task ends by a call, where so many were committed before.
+/// How a transaction ends by a call, where so many were committed before.
 fn end_by<
     D: Disk + Drop,
     N: StoreNaming,
@@ -280,14 +352,16 @@ fn end_by<
     R: Clock + Wait,
 >(
     rt: &R,
-    alloc: Global,
     front: &Front<D, N, T, S>,
     pass: &mut Pass<N>,
-    (call, task): (Call, Task),
+    tx: Tx,
+    call: Call,
     committed: u64,
 ) -> Result<Ends, Fault> {
-    let plan = front.plan(task.tx(alloc)?)?;
-    Ok(end_of(settled(rt, front, pass, &plan, call), committed))
+    match front.plan(tx) {
+        Ok(plan) => Ok(end_of(settled(rt, front, pass, &plan, call), committed)),
+        Err(fault) => Err(fault),
+    }
 }
 
 /// The value that is told alone, of variable 0.
@@ -300,6 +374,14 @@ fn first_alone(told: Option<Vec<(u16, i64)>>) -> Option<i64> {
     }
 }
 
+/// The same, if it was told.
+fn told_alone(told: Result<Option<Vec<(u16, i64)>>, Fault>) -> Result<Option<i64>, Fault> {
+    match told {
+        Ok(told) => Ok(first_alone(told)),
+        Err(fault) => Err(fault),
+    }
+}
+
 /// The value of variable 0 by which the invariant refuses a plan, where it does.
 fn why<
     D: Disk + Drop,
@@ -309,8 +391,10 @@ fn why<
     R: Clock + Wait,
 >(rt: &R, front: &Front<D, N, T, S>, pass: &mut Pass<N>, tx: Tx) -> Result<Option<i64>, Fault> {
     let name = names()[0];
-    let plan = front.plan(tx)?;
-    Ok(first_alone(front.why_refused(rt, pass, &plan, &name)?))
+    match front.plan(tx) {
+        Ok(plan) => told_alone(front.why_refused(rt, pass, &plan, &name)),
+        Err(fault) => Err(fault),
+    }
 }
 
 /// The value of variable 0 by which it refuses an attempt at a plan.
@@ -322,55 +406,54 @@ fn why_attempt<
     R: Clock + Wait,
 >(rt: &R, front: &Front<D, N, T, S>, pass: &mut Pass<N>, tx: Tx) -> Result<Option<i64>, Fault> {
     let name = names()[0];
-    let attempt = front.attempt(rt, &front.plan(tx)?)?;
-    Ok(first_alone(front.why_attempt_refused(rt, pass, &attempt, &name)?))
+    match attempt_at(rt, front, tx) {
+        Ok(attempt) => told_alone(front.why_attempt_refused(rt, pass, &attempt, &name)),
+        Err(fault) => Err(fault),
+    }
 }
 
-/// Asks by which value a plan is refused, which is to be this.
-fn ask<
+fn attempt_at<
     D: Disk + Drop,
     N: StoreNaming,
     T: Invariants + Drop,
     S: StoredSteps + Drop,
-    R: Abort + Clock + Wait,
+    R: Clock + Wait,
+>(rt: &R, front: &Front<D, N, T, S>, tx: Tx) -> Result<Attempt, Fault> {
+    match front.plan(tx) {
+        Ok(plan) => front.attempt(rt, &plan),
+        Err(fault) => Err(fault),
+    }
+}
+
+/// By which value a plan is refused, or an attempt at one.
+fn why_of<
+    D: Disk + Drop,
+    N: StoreNaming,
+    T: Invariants + Drop,
+    S: StoredSteps + Drop,
+    R: Clock + Wait,
 >(
     rt: &R,
     front: &Front<D, N, T, S>,
     pass: &mut Pass<N>,
     tx: Tx,
-    want: Option<i64>,
-) -> Result<(), Fault> {
-    let had = why(rt, front, pass, tx)?;
-    assert!(rt;
-        had == want,
-        "a plan is refused by {had:?}, not by {want:?}"
-    );
-    Ok(())
+    asked: Asked,
+) -> Result<Option<i64>, Fault> {
+    match asked {
+        Asked::Attempt(_) => why_attempt(rt, front, pass, tx),
+        _ => why(rt, front, pass, tx),
+    }
 }
 
-/// The same of an attempt at a plan.
-fn ask_of_attempt<
-    D: Disk + Drop,
-    N: StoreNaming,
-    T: Invariants + Drop,
-    S: StoredSteps + Drop,
-    R: Abort + Clock + Wait,
->(
-    rt: &R,
-    front: &Front<D, N, T, S>,
-    pass: &mut Pass<N>,
-    tx: Tx,
-    want: Option<i64>,
-) -> Result<(), Fault> {
-    let had = why_attempt(rt, front, pass, tx)?;
+fn must_be(rt: &impl Abort, asked: Asked, had: Option<i64>, want: Option<i64>) {
+    let what = asked.what();
     assert!(rt;
         had == want,
-        "an attempt is refused by {had:?}, not by {want:?}"
+        "{what} is refused by {had:?}, not by {want:?}"
     );
-    Ok(())
 }
 
-/// Asks why plans are refused, where variable 0 is 1: at the point of their check, and at the end. Some are not.
+/// Asks why plans are refused, and attempts at some.
 fn ask_why<
     D: Disk + Drop,
     N: StoreNaming,
@@ -378,14 +461,44 @@ fn ask_why<
     S: StoredSteps + Drop,
     R: Abort + Clock + Wait,
 >(rt: &R, alloc: Global, front: &Front<D, N, T, S>, pass: &mut Pass<N>) -> Result<(), Fault> {
-    ask(rt, front, pass, check_negative(alloc, -7)?, Some(-7))?;
-    ask(rt, front, pass, write_negative(alloc, -4)?, Some(-4))?;
-    ask(rt, front, pass, write(alloc, 0, 1)?, None)?;
-    ask_of_attempt(rt, front, pass, write_negative(alloc, -5)?, Some(-5))?;
-    ask_of_attempt(rt, front, pass, write(alloc, 0, 1)?, None)
+    for (asked, want) in ASKED {
+        let had = why_of(rt, front, pass, asked.tx(alloc)?, *asked)?;
+        must_be(rt, *asked, had, *want);
+    }
+    Ok(())
 }
 
-/// Plays the rows.
+fn must_end(rt: &impl Abort, (call, task): (Call, Task), had: Ends, want: Ends) {
+    assert!(rt; had == want, "{task:?} by {call:?} ends so: {had:?}");
+}
+
+/// Plays a row, and answers how many are committed then.
+fn play_row<
+    D: Disk + Drop,
+    N: StoreNaming,
+    T: Invariants + Drop,
+    S: StoredSteps + Drop,
+    R: Abort + Clock + Wait,
+>(
+    rt: &R,
+    alloc: Global,
+    front: &Front<D, N, T, S>,
+    pass: &mut Pass<N>,
+    row: &Row,
+    mut committed: u64,
+) -> Result<u64, Fault> {
+    let (calls, task, times, want) = *row;
+    for call in calls {
+        for _ in 0..times {
+            let had = end_by(rt, front, pass, task.tx(alloc)?, *call, committed)?;
+            must_end(rt, (*call, task), had, want);
+            committed = committed.wrapping_add(u64::from(had == Ends::Commits));
+        }
+    }
+    Ok(committed)
+}
+
+/// Plays the rows, and asks.
 fn play<
     D: Disk + Drop,
     N: StoreNaming,
@@ -394,14 +507,8 @@ fn play<
     R: Abort + Clock + Wait,
 >(rt: &R, alloc: Global, front: &Front<D, N, T, S>, pass: &mut Pass<N>) -> Result<(), Fault> {
     let mut committed = 0u64;
-    for (calls, task, times, want) in ROWS {
-        for call in *calls {
-            for _ in 0..*times {
-                let had = end_by(rt, alloc, front, pass, (*call, *task), committed)?;
-                assert!(rt; had == *want, "{task:?} by {call:?} ends so: {had:?}");
-                committed = committed.wrapping_add(u64::from(had == Ends::Commits));
-            }
-        }
+    for row in ROWS {
+        committed = play_row(rt, alloc, front, pass, row, committed)?;
     }
     assert!(rt; committed == 256);
     ask_why(rt, alloc, front, pass)

@@ -32,54 +32,38 @@ pub(super) fn add(
     Ok(())
 }
 
-/// Checks 8 names, from this number on.
-fn eight_checks(alloc: Global, from: u8) -> Result<Tx, Fault>
+/// Checks 8 names, from this number on, or retires them.
+fn eight(alloc: Global, from: u8, checks: bool) -> Result<Tx, Fault>
     requires { from < 64 }
 {
     let mut all = Vec::new(alloc);
     for n in from..from + 8 {
-        let name = numbered(n)?;
-        all.push(Tx::Check { name })?;
+        all.push(of_name(numbered(n)?, checks))?;
     }
     Ok(Tx::Seq(all))
 }
 
-/// Registers 8 names in the transaction of this number.
-fn registers_eight<T: Invariants + Drop, S: StoredSteps + Drop>(
-    alloc: Global,
-    world: &mut World<SimDisk, T, S>,
-    number: u8,
-) -> Result<bool, Fault>
-    requires { number < 8 }
-{
-    let checks = eight_checks(alloc, 8 * number)?;
-    Ok(commit(world, checks) == committed(u64::from(number), 0))
-}
-
-/// Retires 8 names, from this number on.
-fn eight_retirements(alloc: Global, from: u8) -> Result<Tx, Fault>
-    requires { from < 64 }
-{
-    let mut all = Vec::new(alloc);
-    for n in from..from + 8 {
-        let name = numbered(n)?;
-        all.push(Tx::Retire { name })?;
+fn of_name(name: Name, checks: bool) -> Tx {
+    if checks {
+        Tx::Check { name }
+    } else {
+        Tx::Retire { name }
     }
-    Ok(Tx::Seq(all))
 }
 
-/// Retires 8 names in the transaction of this number behind the first.
-fn retires_eight<T: Invariants + Drop, S: StoredSteps + Drop>(
+/// Registers 8 names in the transaction of this number behind the first, or retires them.
+fn commits_eight<T: Invariants + Drop, S: StoredSteps + Drop>(
     alloc: Global,
     world: &mut World<SimDisk, T, S>,
     first: u64,
     number: u8,
+    registers: bool,
 ) -> Result<bool, Fault>
     requires { number < 8 }
 {
-    let retirements = eight_retirements(alloc, 8 * number)?;
+    let tx = eight(alloc, 8 * number, registers)?;
     let wanted = committed(first.wrapping_add(u64::from(number)), 0);
-    Ok(commit(world, retirements) == wanted)
+    Ok(commit(world, tx) == wanted)
 }
 
 /// Whether there is a session, with 64 names.
@@ -112,29 +96,17 @@ pub(super) fn has_none<T: Invariants + Drop, S: StoredSteps + Drop>(
     are_registered(world, false)
 }
 
-/// Retires 64 names, 8 in a transaction, of which this is the first number.
-pub(super) fn retire_all<T: Invariants + Drop, S: StoredSteps + Drop>(
+/// Registers 64 names, 8 in a transaction, of which this is the first number, or retires them.
+pub(super) fn commit_all<T: Invariants + Drop, S: StoredSteps + Drop>(
     rt: &impl Abort,
     alloc: Global,
     world: &mut World<SimDisk, T, S>,
     first: u64,
+    registers: bool,
 ) -> Result<(), Fault> {
     for number in 0..8u8 {
-        assert!(rt; retires_eight(alloc, world, first, number)?);
+        assert!(rt; commits_eight(alloc, world, first, number, registers)?);
     }
-    assert!(rt; has_none(world)?);
-    Ok(())
-}
-
-/// Registers 64 names, 8 in a transaction.
-pub(super) fn register_all<T: Invariants + Drop, S: StoredSteps + Drop>(
-    rt: &impl Abort,
-    alloc: Global,
-    world: &mut World<SimDisk, T, S>,
-) -> Result<(), Fault> {
-    for number in 0..8u8 {
-        assert!(rt; registers_eight(alloc, world, number)?);
-    }
-    assert!(rt; has_all(world)?);
+    assert!(rt; are_registered(world, registers)?);
     Ok(())
 }
