@@ -2,8 +2,8 @@
 //! invariant of an opened store is false.
 use std::alloc::{AllocError, Global};
 use std::test::Fail;
-use tmem_fault::{Fault, Name};
 use tmem_answers::{Answer, AnswerLine};
+use tmem_fault::{Fault, Name};
 use tmem_tree::Settled;
 
 // The line of an answer to the request -3.

@@ -1,0 +1,13 @@
+use Rattle.tmem_store_tests.proofs.tests.fronts.attempt_and_settle.Goals as goal
+
+pub attempt-requires-clause-steps : goal.attempt-requires-clause-steps
+attempt-requires-clause-steps g c = c.requires.steps
+
+pub attempt-requires-clause-variables : goal.attempt-requires-clause-variables
+attempt-requires-clause-variables g c = c.requires.variables
+
+pub attempt-requires-clause-names : goal.attempt-requires-clause-names
+attempt-requires-clause-names g c = c.requires.names
+
+pub attempt-requires-clause-shapes : goal.attempt-requires-clause-shapes
+attempt-requires-clause-shapes g c = c.requires.shapes

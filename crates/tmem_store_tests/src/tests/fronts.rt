@@ -1,0 +1,571 @@
+//! A front by one caller: transactions of each form and at each limit, by each call that settles them.
+ghost use Rattle.std.specs.Prelude.{◌≡◌, length};
+ghost use Rattle.tmem_builtins.specs.Invariants.{is_not_negative};
+ghost use Rattle.tmem_front.specs.Held.{front_found, spine_of, front_steps, front_table};
+ghost use Rattle.tmem_store_tests.specs.Programs.{checked_program};
+ghost use Rattle.tmem_tree.specs.Plans.{FitsSteps, FitsVariables, FitsNames, FitsShapes};
+
+use super::worlds::formatted;
+use std::alloc::{AllocError, Global};
+use std::marker::Brand;
+use std::process::Abort;
+use std::rt::Clock;
+use std::sync::Wait;
+use std::test::Fail;
+use std::time::Duration;
+use tmem_builtins::{names, nonneg, stored_steps};
+use tmem_disk::Disk;
+use tmem_fault::Fault;
+use tmem_front::{Front, OpenedFront, Pass, StoreNaming};
+use tmem_invariants::Invariants;
+use tmem_tables::{Invariant, Table};
+use tmem_tentative::Attempt;
+use tmem_tree::{Plan, StoredSteps, Tx};
+use tmem_world::Settled;
+
+/// A call that settles a transaction, or an attempt with its settle.
+#[derive(Clone, Copy, Debug)]
+enum Call {
+    AttemptAndSettle,
+    TryAtomically,
+    Atomically,
+    AtomicallyWithin,
+    AtomicallyWithRoom,
+    CommitDurable,
+}
+
+const ALL: &[Call] = &[
+    Call::AttemptAndSettle,
+    Call::TryAtomically,
+    Call::Atomically,
+    Call::AtomicallyWithin,
+    Call::AtomicallyWithRoom,
+    Call::CommitDurable,
+];
+
+/// Those that await no flush of what they commit.
+const NOT_AWAITING: &[Call] = &[
+    Call::AttemptAndSettle,
+    Call::TryAtomically,
+    Call::Atomically,
+    Call::AtomicallyWithin,
+    Call::AtomicallyWithRoom,
+];
+
+/// Those that wait for no room.
+const REFUSED_ROOM: &[Call] = &[
+    Call::AttemptAndSettle,
+    Call::TryAtomically,
+    Call::Atomically,
+    Call::AtomicallyWithin,
+];
+
+#[derive(Clone, Copy, Debug)]
+enum Task {
+    /// Writes a 1 to variable 0.
+    Write,
+    /// Has each form. It writes a 5 to variable 0, and aborts with 7 where the number is not 0.
+    EachForm(i64),
+    /// Has 512 nodes, is 32 deep, writes this number to 64 variables, and retires 8 times and then checks 8 times that variable 0 is not
+    /// negative.
+    Largest(i64),
+    /// Reads 500 variables.
+    Reads,
+    /// Reads 510 variables, and checks that variable 0 is not negative: 512 nodes, and 513 turns.
+    ReadsAndChecks,
+}
+
+/// How it ends.
+#[derive(Clone, Copy, Debug, PartialEq)]
+enum Ends {
+    /// With the next number, from 0.
+    Commits,
+    /// Sees what there was before anything was committed, and has no number in any register.
+    SeesNothing,
+    Aborts(u16),
+    Breaks,
+    IsFull,
+    Otherwise,
+}
+
+/// By which calls what is settled, how often by each, and how it ends.
+type Row = (&'static [Call], Task, u32, Ends);
+
+const ROWS: &[Row] = &[
+    (ALL, Task::EachForm(1), 1, Ends::Aborts(7)),
+    (ALL, Task::Largest(-1), 1, Ends::Breaks),
+    (ALL, Task::Reads, 1, Ends::SeesNothing),
+    (NOT_AWAITING, Task::EachForm(0), 1, Ends::Commits),
+    (NOT_AWAITING, Task::Largest(1), 1, Ends::Commits),
+    (NOT_AWAITING, Task::ReadsAndChecks, 1, Ends::Commits),
+    // no flush is awaited for what does not commit
+    (ALL, Task::EachForm(1), 1, Ends::Aborts(7)),
+    (ALL, Task::Largest(-1), 1, Ends::Breaks),
+    // 256 wait then
+    (&[Call::TryAtomically], Task::Write, 241, Ends::Commits),
+    (REFUSED_ROOM, Task::Largest(1), 1, Ends::IsFull),
+];
+
+/// What makes variable 0 a number, and is asked why it is refused.
+#[derive(Clone, Copy)]
+enum Asked {
+    /// A plan that checks then that it is not negative, and makes it 2.
+    PlanThatChecks(i64),
+    Plan(i64),
+    Attempt(i64),
+}
+
+/// By which value of variable 0 it is refused, where that was 1: at the point of its check, and at the end. Some are not.
+const ASKED: &[(Asked, Option<i64>)] = &[
+    (Asked::PlanThatChecks(-7), Some(-7)),
+    (Asked::Plan(-4), Some(-4)),
+    (Asked::Plan(1), None),
+    (Asked::Attempt(-5), Some(-5)),
+    (Asked::Attempt(1), None),
+];
+
+impl Task {
+    fn tx(self, alloc: Global) -> Result<Tx, AllocError> {
+        match self {
+            Task::Write => write_number(alloc, 1),
+            Task::EachForm(aborts) => each_form(alloc, aborts),
+            Task::Largest(number) => deepened(alloc, largest(alloc, number)?),
+            Task::Reads => reads(alloc),
+            Task::ReadsAndChecks => reads_and_checks(alloc),
+        }
+    }
+}
+
+impl Asked {
+    fn tx(self, alloc: Global) -> Result<Tx, AllocError> {
+        match self {
+            Asked::PlanThatChecks(number) => check_negative(alloc, number),
+            Asked::Plan(number) => write_number(alloc, number),
+            Asked::Attempt(number) => write_number(alloc, number),
+        }
+    }
+
+    fn what(self) -> &'static str {
+        match self {
+            Asked::Attempt(_) => "an attempt",
+            _ => "a plan",
+        }
+    }
+}
+
+fn each_form(alloc: Global, aborts: i64) -> Result<Tx, AllocError> {
+    let args = vec![in alloc; 0, 0]?;
+    let retries = Box::new(alloc, Tx::Retry)?;
+    let writes = Box::new(alloc, Tx::Write { var: 0, reg: 0 })?;
+    let then = Box::new(alloc, Tx::Abort { code: 7 })?;
+    let other = Box::new(alloc, Tx::Skip)?;
+    Ok(Tx::Seq(vec![in alloc;
+        Tx::Put { reg: 0, number: 5 },
+        Tx::Put {
+            reg: 3,
+            number: aborts
+        },
+        Tx::Read { var: 1, reg: 1 },
+        Tx::OrElse(retries, writes),
+        Tx::Step {
+            index: 0,
+            args,
+            out: 2
+        },
+        Tx::Retire { name: names()[0] },
+        Tx::Check { name: names()[0] },
+        Tx::When {
+            reg: 3,
+            then,
+            other
+        },
+    ]?))
+}
+
+/// One of 482 nodes that is 2 deep.
+fn largest(alloc: Global, number: i64) -> Result<Tx, AllocError> {
+    let mut all = vec![in alloc; Tx::Put { reg: 0, number }]?;
+    for at in 0..480 {
+        all.push(node_of_largest(at))?;
+    }
+    Ok(Tx::Seq(all))
+}
+
+/// The writes come first, then what retires, then the checks, and 400 that do nothing.
+fn node_of_largest(at: u16) -> Tx {
+    match at {
+        0..=63 => Tx::Write { var: at, reg: 0 },
+        64..=71 => Tx::Retire { name: names()[0] },
+        72..=79 => Tx::Check { name: names()[0] },
+        _ => Tx::Skip,
+    }
+}
+
+/// The same in 30 more nodes, one in the other.
+fn deepened(alloc: Global, mut tx: Tx) -> Result<Tx, AllocError> {
+    for _ in 0..30 {
+        tx = Tx::Seq(vec![in alloc; tx]?);
+    }
+    Ok(tx)
+}
+
+fn reads(alloc: Global) -> Result<Tx, AllocError> {
+    let mut all = Vec::new(alloc);
+    for var in 0..500 {
+        all.push(Tx::Read { var, reg: 0 })?;
+    }
+    Ok(Tx::Seq(all))
+}
+
+fn reads_and_checks(alloc: Global) -> Result<Tx, AllocError> {
+    let mut all = Vec::new(alloc);
+    for var in 1..511 {
+        all.push(Tx::Read { var, reg: 0 })?;
+    }
+    all.push(Tx::Check { name: names()[0] })?;
+    Ok(Tx::Seq(all))
+}
+
+/// Makes variable 0 this number.
+fn write_number(alloc: Global, number: i64) -> Result<Tx, AllocError> {
+    Ok(Tx::Seq(vec![in alloc; Tx::Put { reg: 0, number }, Tx::Write { var: 0, reg: 0 }]?))
+}
+
+/// The same, checks that it is not negative, and makes it 2.
+fn check_negative(alloc: Global, number: i64) -> Result<Tx, AllocError> {
+    Ok(Tx::Seq(vec![in alloc;
+        Tx::Put { reg: 0, number },
+        Tx::Write { var: 0, reg: 0 },
+        Tx::Check { name: names()[0] },
+        Tx::Put { reg: 0, number: 2 },
+        Tx::Write { var: 0, reg: 0 },
+    ]?))
+}
+
+/// What a plan is settled with by a call.
+fn settled<
+    D: Disk + Drop,
+    N: StoreNaming,
+    T: Invariants + Drop,
+    S: StoredSteps + Drop,
+    R: Clock + Wait,
+>(
+    rt: &R,
+    front: &Front<D, N, T, S>,
+    pass: &mut Pass<N>,
+    plan: &Plan,
+    call: Call,
+) -> Result<Settled, Fault>
+    requires steps { FitsSteps (S.arities front.now.steps) plan.now.tree }
+    requires variables { FitsVariables front.now.vars plan.now }
+    requires names { FitsNames N.program.names plan.now.tree }
+    requires shapes { FitsShapes N.program.tests plan.now }
+{
+    match call {
+        Call::AttemptAndSettle => attempt_and_settle(rt, front, pass, plan),
+        Call::TryAtomically => front.try_atomically(rt, pass, plan),
+        Call::Atomically => front.atomically(rt, pass, plan),
+        Call::AtomicallyWithin | Call::AtomicallyWithRoom | Call::CommitDurable => {
+            settled_patiently(rt, front, pass, plan, call)
+        }
+    }
+}
+
+/// The same by one of the three that have a limit, or wait for room or for a flush.
+fn settled_patiently<
+    D: Disk + Drop,
+    N: StoreNaming,
+    T: Invariants + Drop,
+    S: StoredSteps + Drop,
+    R: Clock + Wait,
+>(
+    rt: &R,
+    front: &Front<D, N, T, S>,
+    pass: &mut Pass<N>,
+    plan: &Plan,
+    call: Call,
+) -> Result<Settled, Fault>
+    requires steps { FitsSteps (S.arities front.now.steps) plan.now.tree }
+    requires variables { FitsVariables front.now.vars plan.now }
+    requires names { FitsNames N.program.names plan.now.tree }
+    requires shapes { FitsShapes N.program.tests plan.now }
+{
+    match call {
+        Call::AtomicallyWithin => {
+            front.atomically_within(rt, pass, plan, Duration::from_secs(60))
+        }
+        Call::AtomicallyWithRoom => front.atomically_with_room(rt, pass, plan),
+        _ => front.commit_durable(rt, pass, plan),
+    }
+}
+
+fn attempt_and_settle<
+    D: Disk + Drop,
+    N: StoreNaming,
+    T: Invariants + Drop,
+    S: StoredSteps + Drop,
+    R: Clock + Wait,
+>(rt: &R, front: &Front<D, N, T, S>, pass: &mut Pass<N>, plan: &Plan) -> Result<Settled, Fault>
+    requires steps { FitsSteps (S.arities front.now.steps) plan.now.tree }
+    requires variables { FitsVariables front.now.vars plan.now }
+    requires names { FitsNames N.program.names plan.now.tree }
+    requires shapes { FitsShapes N.program.tests plan.now }
+{
+    match front.attempt(rt, plan) {
+        Ok(attempt) => front.settle(rt, pass, &attempt),
+        Err(fault) => Err(fault),
+    }
+}
+
+/// How it ended, where so many were committed before.
+fn end_of(settled: Result<Settled, Fault>, committed: u64) -> Ends {
+    match settled {
+        Ok(settled) => end_settled(&settled, committed),
+        Err(Fault::Full) => Ends::IsFull,
+        Err(_) => Ends::Otherwise,
+    }
+}
+
+fn end_settled(settled: &Settled, committed: u64) -> Ends {
+    match settled {
+        Settled::Committed { number, .. } => end_where(*number == committed, Ends::Commits),
+        Settled::Seen { at, registers } => {
+            end_where(*at == 0 && *registers == [0; 16], Ends::SeesNothing)
+        }
+        Settled::Aborted(code) => Ends::Aborts(*code),
+        Settled::Refused(name) => end_where(name.as_str() == "nonneg", Ends::Breaks),
+        Settled::Retry => Ends::Otherwise,
+    }
+}
+
+/// This end where it is so, and else another one.
+fn end_where(is_so: bool, end: Ends) -> Ends {
+    if is_so { end } else { Ends::Otherwise }
+}
+
+/// How a transaction ends by a call, where so many were committed before.
+fn end_by<
+    D: Disk + Drop,
+    N: StoreNaming,
+    T: Invariants + Drop,
+    S: StoredSteps + Drop,
+    R: Clock + Wait,
+>(
+    rt: &R,
+    front: &Front<D, N, T, S>,
+    pass: &mut Pass<N>,
+    tx: Tx,
+    call: Call,
+    committed: u64,
+) -> Result<Ends, Fault> {
+    match front.plan(tx) {
+        Ok(plan) => Ok(end_of(settled(rt, front, pass, &plan, call), committed)),
+        Err(fault) => Err(fault),
+    }
+}
+
+/// The value that is told alone, of variable 0.
+fn first_alone(told: Option<Vec<(u16, i64)>>) -> Option<i64> {
+    let values = told?;
+    if values.len() == 1 && values[0].0 == 0 {
+        Some(values[0].1)
+    } else {
+        None
+    }
+}
+
+/// The same, if it was told.
+fn told_alone(told: Result<Option<Vec<(u16, i64)>>, Fault>) -> Result<Option<i64>, Fault> {
+    match told {
+        Ok(told) => Ok(first_alone(told)),
+        Err(fault) => Err(fault),
+    }
+}
+
+/// The value of variable 0 by which the invariant refuses a plan, where it does.
+fn why<
+    D: Disk + Drop,
+    N: StoreNaming,
+    T: Invariants + Drop,
+    S: StoredSteps + Drop,
+    R: Clock + Wait,
+>(rt: &R, front: &Front<D, N, T, S>, pass: &mut Pass<N>, tx: Tx) -> Result<Option<i64>, Fault> {
+    let name = names()[0];
+    match front.plan(tx) {
+        Ok(plan) => told_alone(front.why_refused(rt, pass, &plan, &name)),
+        Err(fault) => Err(fault),
+    }
+}
+
+/// The value of variable 0 by which it refuses an attempt at a plan.
+fn why_attempt<
+    D: Disk + Drop,
+    N: StoreNaming,
+    T: Invariants + Drop,
+    S: StoredSteps + Drop,
+    R: Clock + Wait,
+>(rt: &R, front: &Front<D, N, T, S>, pass: &mut Pass<N>, tx: Tx) -> Result<Option<i64>, Fault> {
+    let name = names()[0];
+    match attempt_at(rt, front, tx) {
+        Ok(attempt) => told_alone(front.why_attempt_refused(rt, pass, &attempt, &name)),
+        Err(fault) => Err(fault),
+    }
+}
+
+fn attempt_at<
+    D: Disk + Drop,
+    N: StoreNaming,
+    T: Invariants + Drop,
+    S: StoredSteps + Drop,
+    R: Clock + Wait,
+>(rt: &R, front: &Front<D, N, T, S>, tx: Tx) -> Result<Attempt, Fault> {
+    match front.plan(tx) {
+        Ok(plan) => front.attempt(rt, &plan),
+        Err(fault) => Err(fault),
+    }
+}
+
+/// By which value a plan is refused, or an attempt at one.
+fn why_of<
+    D: Disk + Drop,
+    N: StoreNaming,
+    T: Invariants + Drop,
+    S: StoredSteps + Drop,
+    R: Clock + Wait,
+>(
+    rt: &R,
+    front: &Front<D, N, T, S>,
+    pass: &mut Pass<N>,
+    tx: Tx,
+    asked: Asked,
+) -> Result<Option<i64>, Fault> {
+    match asked {
+        Asked::Attempt(_) => why_attempt(rt, front, pass, tx),
+        _ => why(rt, front, pass, tx),
+    }
+}
+
+fn must_be(rt: &impl Abort, asked: Asked, had: Option<i64>, want: Option<i64>) {
+    let what = asked.what();
+    assert!(rt;
+        had == want,
+        "{what} is refused by {had:?}, not by {want:?}"
+    );
+}
+
+/// Asks why plans are refused, and attempts at some.
+fn ask_why<
+    D: Disk + Drop,
+    N: StoreNaming,
+    T: Invariants + Drop,
+    S: StoredSteps + Drop,
+    R: Abort + Clock + Wait,
+>(rt: &R, alloc: Global, front: &Front<D, N, T, S>, pass: &mut Pass<N>) -> Result<(), Fault> {
+    for (asked, want) in ASKED {
+        let had = why_of(rt, front, pass, asked.tx(alloc)?, *asked)?;
+        must_be(rt, *asked, had, *want);
+    }
+    Ok(())
+}
+
+fn must_end(rt: &impl Abort, (call, task): (Call, Task), had: Ends, want: Ends) {
+    assert!(rt; had == want, "{task:?} by {call:?} ends so: {had:?}");
+}
+
+/// Plays a row, and answers how many are committed then.
+fn play_row<
+    D: Disk + Drop,
+    N: StoreNaming,
+    T: Invariants + Drop,
+    S: StoredSteps + Drop,
+    R: Abort + Clock + Wait,
+>(
+    rt: &R,
+    alloc: Global,
+    front: &Front<D, N, T, S>,
+    pass: &mut Pass<N>,
+    row: &Row,
+    mut committed: u64,
+) -> Result<u64, Fault> {
+    let (calls, task, times, want) = *row;
+    for call in calls {
+        for _ in 0..times {
+            let had = end_by(rt, front, pass, task.tx(alloc)?, *call, committed)?;
+            must_end(rt, (*call, task), had, want);
+            committed = committed.wrapping_add(u64::from(had == Ends::Commits));
+        }
+    }
+    Ok(committed)
+}
+
+/// Plays the rows, and asks.
+fn play<
+    D: Disk + Drop,
+    N: StoreNaming,
+    T: Invariants + Drop,
+    S: StoredSteps + Drop,
+    R: Abort + Clock + Wait,
+>(rt: &R, alloc: Global, front: &Front<D, N, T, S>, pass: &mut Pass<N>) -> Result<(), Fault> {
+    let mut committed = 0u64;
+    for row in ROWS {
+        committed = play_row(rt, alloc, front, pass, row, committed)?;
+    }
+    assert!(rt; committed == 256);
+    ask_why(rt, alloc, front, pass)
+}
+
+/// Plays them in a store that was opened.
+fn play_opened<
+    N: StoreNaming,
+    D: Disk + Drop,
+    T: Invariants + Drop,
+    S: StoredSteps + Drop,
+    R: Abort + Clock + Wait,
+>(rt: &R, alloc: Global, opened: OpenedFront<D, T, S>) -> Result<(), Fault>
+    requires spine { spine_of opened ≡ N.name }
+    requires opening { front_found opened ≡ N.opening }
+    requires program { N.program ≡ checked_program }
+    requires names { T.names (front_table opened) ≡ checked_program.names }
+    requires stated { T.is_stated (front_table opened) checked_program.tests }
+    requires steps { S.is_stated (front_steps opened) checked_program.steps }
+{
+    let front = opened.named::<N>();
+    let mut pass = front.pass(rt)?;
+    play(rt, alloc, &front, &mut pass)
+}
+
+/// Plays them in a new store of 1024 variables and 64 slots.
+fn play_new_store<T: Invariants + Drop, S: StoredSteps + Drop, R: Abort + Clock + Wait>(
+    rt: &R,
+    alloc: Global,
+    table: T,
+    steps: S,
+) -> Result<(), Fault>
+    requires vars { T.vars table ≡ 1024 }
+    requires names { T.names table ≡ checked_program.names }
+    requires tests { T.is_stated table checked_program.tests }
+    requires steps { S.is_stated steps checked_program.steps }
+{
+    let disk = formatted(alloc, 1024, 64)?;
+    match OpenedFront::open(alloc, disk, 1024, 64, table, steps) {
+        Ok(opened) => play_opened::<Brand, _, T, S, R>(rt, alloc, opened),
+        Err((fault, _disk)) => Err(fault),
+    }
+}
+
+// at: 512 nodes, depth 32, 64 writes, 8 checks, 8 retirements, 500 reads, 1024 variables, 64 slots, 256 waiting
+#[test]
+fn each_call_of_a_front_settles_each_form_at_each_limit(rt: HostRuntime) -> Result<(), Fail> {
+    let alloc = rt.alloc();
+    let test = Box::new(
+        alloc,
+        |values: &[i64]| -> bool
+            requires { length values.now ≡ 1 }
+            ensures { result ≡ is_not_negative values.now }
+        { nonneg(values) },
+    )?;
+    let invariant = Invariant::new(names()[0], vec![in alloc; 0]?, test)?;
+    let table = Table::of(alloc, vec![in alloc; invariant]?, 1024)?;
+    play_new_store(&rt, alloc, table, stored_steps())?;
+    Ok(())
+}

@@ -1,0 +1,112 @@
+//! Invariants by number: their names, which stand in its order, and worlds that register all 64, and retire them.
+ghost use Rattle.std.specs.Prelude.{◌<◌, length};
+ghost use Rattle.tmem_invariants.specs.Answers.{MayCall, HasMeaning};
+
+use super::worlds::{commit, committed};
+use std::alloc::Global;
+use std::process::Abort;
+use tmem_disk::SimDisk;
+use tmem_fault::{Fault, Name};
+use tmem_invariants::Invariants;
+use tmem_tables::{Invariant, Test};
+use tmem_tree::{StoredSteps, Tx};
+use tmem_world::World;
+
+/// A name for each number, ascending.
+pub(super) fn numbered(n: u8) -> Result<Name, Fault> {
+    let letters = [b'a' + n / 26, b'a' + n % 26];
+    Name::new(std::str::from_utf8(&letters).unwrap_or(""))
+}
+
+/// Puts the invariant of a number behind others.
+pub(super) fn add(
+    entries: &mut Vec<Invariant>,
+    number: u8,
+    footprint: Vec<u16>,
+    test: Test,
+) -> Result<(), Fault>
+    requires callable { MayCall (Test.pre test) (length footprint.items) }
+    requires stated { HasMeaning (Test.post test) (length footprint.items) }
+{
+    entries.push(Invariant::new(numbered(number)?, footprint, test)?)?;
+    Ok(())
+}
+
+/// Checks 8 names, from this number on, or retires them.
+fn eight(alloc: Global, from: u8, checks: bool) -> Result<Tx, Fault>
+    requires { from < 64 }
+{
+    let mut all = Vec::new(alloc);
+    for n in from..from + 8 {
+        all.push(of_name(numbered(n)?, checks))?;
+    }
+    Ok(Tx::Seq(all))
+}
+
+fn of_name(name: Name, checks: bool) -> Tx {
+    if checks {
+        Tx::Check { name }
+    } else {
+        Tx::Retire { name }
+    }
+}
+
+/// Registers 8 names in the transaction of this number behind the first, or retires them.
+fn commits_eight<T: Invariants + Drop, S: StoredSteps + Drop>(
+    alloc: Global,
+    world: &mut World<SimDisk, T, S>,
+    first: u64,
+    number: u8,
+    registers: bool,
+) -> Result<bool, Fault>
+    requires { number < 8 }
+{
+    let tx = eight(alloc, 8 * number, registers)?;
+    let wanted = committed(first.wrapping_add(u64::from(number)), 0);
+    Ok(commit(world, tx) == wanted)
+}
+
+/// Whether there is a session, with 64 names.
+pub(super) fn has_all<T: Invariants + Drop, S: StoredSteps + Drop>(
+    world: &World<SimDisk, T, S>,
+) -> Result<bool, Fault> {
+    are_registered(world, true)
+}
+
+/// Whether there is a session, and each of the 64 names is registered, or else none.
+fn are_registered<T: Invariants + Drop, S: StoredSteps + Drop>(
+    world: &World<SimDisk, T, S>,
+    wanted: bool,
+) -> Result<bool, Fault> {
+    if !world.is_open() {
+        return Ok(false);
+    }
+    for n in 0..64 {
+        if world.has(&numbered(n)?) != wanted {
+            return Ok(false);
+        }
+    }
+    Ok(true)
+}
+
+/// Whether there is a session, with no name.
+pub(super) fn has_none<T: Invariants + Drop, S: StoredSteps + Drop>(
+    world: &World<SimDisk, T, S>,
+) -> Result<bool, Fault> {
+    are_registered(world, false)
+}
+
+/// Registers 64 names, 8 in a transaction, of which this is the first number, or retires them.
+pub(super) fn commit_all<T: Invariants + Drop, S: StoredSteps + Drop>(
+    rt: &impl Abort,
+    alloc: Global,
+    world: &mut World<SimDisk, T, S>,
+    first: u64,
+    registers: bool,
+) -> Result<(), Fault> {
+    for number in 0..8u8 {
+        assert!(rt; commits_eight(alloc, world, first, number, registers)?);
+    }
+    assert!(rt; are_registered(world, registers)?);
+    Ok(())
+}

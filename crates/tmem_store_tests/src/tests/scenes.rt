@@ -1,0 +1,488 @@
+//! Scenes: in each a new store, and what one thread does with it, then several at once, and then that one again.
+ghost use Rattle.std.specs.Prelude.{◌≡◌};
+ghost use Rattle.tmem_front.specs.Held.{front_found, spine_of};
+ghost use Rattle.tmem_store_tests.specs.Examples.{adding};
+
+use super::moves::{Answer, Move};
+use super::no_closures::{AddsAndNeeds, AlwaysTrue};
+use super::signals::Signals;
+use super::stage_disk::StageDisk;
+use super::store::{Hands, Stage, Store};
+use std::alloc::Global;
+use std::marker::Brand;
+use std::process::Abort;
+use std::rt::Clock;
+use std::sync::Wait;
+use std::test::Fail;
+use std::thread::{self, Threads, map_indices};
+use std::time::Duration;
+use tmem_disk::{Disk, SimDisk};
+use tmem_fault::Fault;
+use tmem_front::{Front, OpenedFront, StoreNaming};
+use tmem_invariants::Invariants;
+use tmem_journal::{Layout, format};
+use tmem_tree::StoredSteps;
+
+/// Where the generation of the first image stands.
+const GENERATION: u64 = 513;
+
+/// A line of a table of scenes. Those of one thread are played in their order.
+#[derive(Clone, Copy)]
+pub(super) enum Line<'a> {
+    /// Begins a scene of this name in a new store of 100 variables, whose device has four slots and never fails, if no line says
+    /// otherwise. Once it is over the device is taken out, and no call of it is made for that.
+    Scene(&'a str),
+    /// How many variables the store has. Some scenes are played with four, so that nothing hangs on a store of 100.
+    Vars(u16),
+    /// How many slots the device has.
+    Slots(u16),
+    /// Which call of it fails, counted from 0 once it is formatted. The first sync is the one of the opening, which writes nothing.
+    FailWrite(u64),
+    FailSync(u64),
+    /// How many milliseconds a sync takes at the least.
+    SyncMillis(u64),
+    /// How many seconds later it is at each reading of the clock, for a wait that has a limit.
+    SkipSeconds(u64),
+    /// How often the clock can be read in a wait that has a limit.
+    ClockReadings(u64),
+    /// Its image is of the last generation, so that no checkpoint can be made.
+    LastImage,
+    /// What one thread does before the others start, and what that has to be answered.
+    Before(Move, Answer),
+    /// What one of eight threads does, which play at once. The last one waits for no other thread, or only where a wrong body may hang:
+    /// it waits until the others have ended, and where they have not in ten seconds it shuts the front until they do.
+    First(Move, Answer),
+    Second(Move, Answer),
+    Third(Move, Answer),
+    Last(Move, Answer),
+    /// What each of the first three does; each of First, Second, Third and Last; each of four more, which do nothing else.
+    FirstThree(Move, Answer),
+    All(Move, Answer),
+    FourMore(Move, Answer),
+    /// What each of sixty-four more does. They have no pass in hand at first.
+    Crowd(Move, Answer),
+    /// What the thread that began does at the end.
+    After(Move, Answer),
+}
+
+/// A part of a scene.
+#[derive(Clone, Copy, Debug, PartialEq)]
+pub(super) enum Part {
+    Before,
+    Thread(usize),
+    Crowd,
+    After,
+}
+
+impl Line<'_> {
+    // What a part does by this line, and what it has to be answered.
+    fn row(&self, part: Part) -> Option<(Move, Answer)> {
+        match (*self, part) {
+            (Line::Before(step, want), Part::Before)
+            | (Line::First(step, want), Part::Thread(0))
+            | (Line::Second(step, want), Part::Thread(1))
+            | (Line::Third(step, want), Part::Thread(2))
+            | (Line::Last(step, want), Part::Thread(LAST))
+            | (Line::FirstThree(step, want), Part::Thread(0 | 1 | 2))
+            | (Line::All(step, want), Part::Thread(0 | 1 | 2 | LAST))
+            | (Line::FourMore(step, want), Part::Thread(4 | 5 | 6 | 7))
+            | (Line::Crowd(step, want), Part::Crowd)
+            | (Line::After(step, want), Part::After) => Some((step, want)),
+            _ => None,
+        }
+    }
+}
+
+/// Which call of the device fails.
+#[derive(Clone, Copy)]
+enum Failing {
+    Never,
+    Write(u64),
+    Sync(u64),
+}
+
+/// The device of a new store.
+#[derive(Clone, Copy)]
+struct Device {
+    vars: u16,
+    slots: u16,
+    failing: Failing,
+    sync_millis: u64,
+    has_last_image: bool,
+}
+
+// How much later it is at each reading of the clock.
+fn skip_of(lines: &[Line]) -> Duration {
+    let mut skip = Duration::ZERO;
+    for line in lines {
+        if let Line::SkipSeconds(seconds) = *line {
+            skip = Duration::from_secs(seconds);
+        }
+    }
+    skip
+}
+
+// How often it can be read.
+fn readings_of(lines: &[Line]) -> u64 {
+    let mut readings = u64::MAX;
+    for line in lines {
+        if let Line::ClockReadings(most) = *line {
+            readings = most;
+        }
+    }
+    readings
+}
+
+// What lines say of the device.
+fn device_of(lines: &[Line]) -> Device {
+    let mut device = Device {
+        vars: 100,
+        slots: 4,
+        failing: Failing::Never,
+        sync_millis: 0,
+        has_last_image: false,
+    };
+    for line in lines {
+        match *line {
+            Line::Vars(vars) => device.vars = vars,
+            Line::Slots(slots) => device.slots = slots,
+            Line::FailWrite(k) => device.failing = Failing::Write(k),
+            Line::FailSync(k) => device.failing = Failing::Sync(k),
+            Line::SyncMillis(millis) => device.sync_millis = millis,
+            Line::LastImage => device.has_last_image = true,
+            _ => {}
+        }
+    }
+    device
+}
+
+/// What went wrong first.
+#[derive(Clone, Copy, Debug)]
+pub(super) enum Wrong {
+    /// No store was made, or no pass given out.
+    NotBegun(Fault),
+    /// A part was answered like this at the line of this number, counted from the scene's own.
+    Answered {
+        part: Part,
+        line: usize,
+        answer: Answer,
+    },
+    /// The others did not begin in time, or did not end.
+    Late,
+    /// The device was called while it was taken out.
+    Called,
+}
+
+/// How often the front is shut where threads still wait.
+const MOST_SHUTS: u64 = 100;
+
+/// The index of the last thread.
+const LAST: usize = 3;
+
+/// How many threads there are, and how many more are a crowd.
+const EIGHT: usize = 8;
+
+const CROWD: usize = 64;
+
+// Whether a part does anything.
+fn has_part(lines: &[Line], part: Part) -> bool {
+    lines.iter().any(|line| line.row(part).is_some())
+}
+
+// How many threads begin with a pass of their own.
+fn beginners_of(lines: &[Line]) -> u64 {
+    let begins = |thread: &usize| has_part(lines, Part::Thread(*thread));
+    (0..EIGHT).filter(begins).count() as u64
+}
+
+// How many threads a scene has.
+fn threads_of(lines: &[Line]) -> usize {
+    if lines.iter().any(|line| matches!(line, Line::Crowd(_, _))) {
+        EIGHT + CROWD
+    } else {
+        EIGHT
+    }
+}
+
+/// What is played on a store. The functions that start threads know no more of it.
+trait Plays {
+    /// Plays what a thread does, and answers what went wrong first.
+    fn play<R: Clock + Wait>(&self, stage: &Stage<R>, thread: usize) -> Option<Wrong>;
+}
+
+impl<D: Disk + Drop, N: StoreNaming, T: Invariants + Drop, S: StoredSteps + Drop> Plays
+    for Front<D, N, T, S> {
+    fn play<R: Clock + Wait>(&self, stage: &Stage<R>, thread: usize) -> Option<Wrong> {
+        let store = Store { front: self };
+        let part = if thread < EIGHT {
+            Part::Thread(thread)
+        } else {
+            Part::Crowd
+        };
+        let wrong = store.play_alone(stage, part);
+        stage.signals.count_end();
+        if thread == LAST && !store.ends_others(stage) {
+            return wrong.or(Some(Wrong::Late));
+        }
+        wrong
+    }
+}
+
+impl<D: Disk + Drop, N: StoreNaming, T: Invariants + Drop, S: StoredSteps + Drop> Store<
+    '_,
+    D,
+    N,
+    T,
+    S,
+> {
+    // Plays a part with hands of its own, if it does anything.
+    fn play_alone<R: Clock + Wait>(&self, stage: &Stage<R>, part: Part) -> Option<Wrong> {
+        if !has_part(stage.lines, part) {
+            return None;
+        }
+        self.play_from(stage, &mut Hands::new(), part)
+    }
+
+    // Takes a pass (the crowd takes none), and plays a part once all others have theirs: else the first thread could take the last pass.
+    fn play_from<R: Clock + Wait>(
+        &self,
+        stage: &Stage<R>,
+        hands: &mut Hands<N>,
+        part: Part,
+    ) -> Option<Wrong> {
+        if part != Part::Crowd {
+            let taken = self.take_pass(stage, &mut hands.pass);
+            let beginners = beginners_of(stage.lines);
+            let is_in_time = stage.signals.begin_together(stage.rt, beginners);
+            if let Err(fault) = taken {
+                return Some(Wrong::NotBegun(fault));
+            }
+            if !is_in_time {
+                return Some(Wrong::Late);
+            }
+        }
+        self.play_lines(stage, hands, part)
+    }
+
+    // Plays all lines of a part, also after a wrong answer, and answers the first one.
+    fn play_lines<R: Clock + Wait>(
+        &self,
+        stage: &Stage<R>,
+        hands: &mut Hands<N>,
+        part: Part,
+    ) -> Option<Wrong> {
+        let mut wrong = None;
+        for (index, line) in stage.lines.iter().enumerate() {
+            if let Some(other) = self.other_at(stage, hands, part, index, line) {
+                wrong = wrong.or(Some(other));
+            }
+        }
+        wrong
+    }
+
+    // Plays a line, if it is of this part, and answers what went wrong.
+    fn other_at<R: Clock + Wait>(
+        &self,
+        stage: &Stage<R>,
+        hands: &mut Hands<N>,
+        part: Part,
+        index: usize,
+        line: &Line,
+    ) -> Option<Wrong> {
+        let (step, want) = line.row(part)?;
+        let answer = self.answer(stage, hands, step);
+        if answer == want {
+            return None;
+        }
+        Some(Wrong::Answered {
+            part,
+            line: index,
+            answer,
+        })
+    }
+
+    // Waits until all threads have ended. Where they have not in time, shuts the front for each that still waits.
+    fn ends_others<R: Clock + Wait>(&self, stage: &Stage<R>) -> bool {
+        let threads = threads_of(stage.lines) as u64;
+        if stage.signals.await_ends(stage.rt, threads) {
+            return true;
+        }
+        for _ in 0..MOST_SHUTS {
+            self.shut(stage);
+            thread::sleep(stage.rt, Duration::from_millis(10));
+        }
+        false
+    }
+}
+
+// Each thread of a scene. Answers what went wrong first.
+fn play_all<F: Plays + Sync, R: Clock + Threads + Wait + Sync>(
+    stage: &Stage<R>,
+    store: &F,
+) -> Option<Wrong> {
+    let threads = threads_of(stage.lines);
+    match map_indices(
+        stage.rt,
+        stage.alloc,
+        threads,
+        &|thread| store.play(stage, thread),
+    ) {
+        Ok(ended) => ended.into_iter().flatten().next(),
+        Err(_) => Some(Wrong::NotBegun(Fault::Memory)),
+    }
+}
+
+// A scene in a store, with the hands that begin it and end it.
+fn play_whole_scene<
+    D: Disk + Drop + Send,
+    N: StoreNaming + Send + Sync,
+    T: Invariants + Drop + Send,
+    S: StoredSteps + Drop + Send + Sync,
+    R: Clock + Threads + Wait + Sync,
+>(stage: &Stage<R>, front: &Front<D, N, T, S>, hands: &mut Hands<N>) -> Option<Wrong> {
+    let store = Store { front };
+    if let Err(fault) = store.take_pass(stage, &mut hands.pass) {
+        return Some(Wrong::NotBegun(fault));
+    }
+    let before = store.play_lines(stage, hands, Part::Before);
+    let threads = play_all(stage, front);
+    let after = store.play_lines(stage, hands, Part::After);
+    before.or(threads).or(after)
+}
+
+/// A scene in a store. Answers what went wrong first.
+pub(super) fn play_on<
+    D: Disk + Drop + Send,
+    N: StoreNaming + Send + Sync,
+    T: Invariants + Drop + Send,
+    S: StoredSteps + Drop + Send + Sync,
+    R: Clock + Threads + Wait + Sync,
+>(stage: &Stage<R>, front: &Front<D, N, T, S>) -> Option<Wrong> {
+    play_whole_scene(stage, front, &mut Hands::new())
+}
+
+/// A store on a device that waits and fails as a scene wants it.
+type Opened<'a, R> = OpenedFront<StageDisk<'a, SimDisk, R>, AlwaysTrue, AddsAndNeeds<'a>>;
+
+// A new device that fails as it is to.
+fn new_disk(alloc: Global, device: Device) -> Result<SimDisk, Fault> {
+    let mut disk = SimDisk::new(alloc, Layout::new(device.vars, device.slots)?.end())?;
+    format(&mut disk, device.vars, device.slots)?;
+    if device.has_last_image && disk.size() >= GENERATION + 8 {
+        let written = disk.write_at(GENERATION, &u64::MAX.to_le_bytes());
+        if written.is_err() {
+            return Err(Fault::Device);
+        }
+    }
+    match device.failing {
+        Failing::Never => {}
+        Failing::Write(k) => disk.fail_write(k),
+        Failing::Sync(k) => disk.fail_sync(k),
+    }
+    Ok(disk)
+}
+
+// A new store.
+fn open<'a, R: Clock>(stage: &Stage<'a, R>, device: Device) -> Result<Opened<'a, R>, Fault> {
+    let disk = StageDisk {
+        inner: new_disk(stage.alloc, device)?,
+        rt: stage.rt,
+        signals: stage.signals,
+        sync_millis: device.sync_millis,
+    };
+    let vars = device.vars;
+    let table = AlwaysTrue { vars };
+    let steps = AddsAndNeeds {
+        signals: stage.signals,
+    };
+    match OpenedFront::open(stage.alloc, disk, vars, device.slots, table, steps) {
+        Ok(opened) => Ok(opened),
+        Err(refusal) => Err(refusal.0),
+    }
+}
+
+// A scene in a store under its name, out of which its device is taken at the end.
+fn play_named<N: StoreNaming + Send + Sync, R: Clock + Threads + Wait + Sync>(
+    stage: &Stage<R>,
+    opened: Opened<R>,
+) -> Option<Wrong>
+    requires spine { spine_of opened ≡ N.name }
+    requires opening { front_found opened ≡ N.opening }
+    requires program { N.program ≡ adding }
+{
+    let front = opened.named::<N>();
+    let wrong = play_on(stage, &front);
+    let calls = stage.signals.calls();
+    drop(front.into_disk());
+    if stage.signals.calls() != calls {
+        return wrong.or(Some(Wrong::Called));
+    }
+    wrong
+}
+
+// A scene, of whose lines the first one names it, in a new store.
+fn play_scene<R: Clock + Threads + Wait + Sync>(
+    rt: &R,
+    alloc: Global,
+    lines: &[Line],
+) -> Option<Wrong> {
+    let signals = Signals::new();
+    let stage = Stage {
+        rt,
+        alloc,
+        signals: &signals,
+        lines,
+        skip: skip_of(lines),
+        readings: readings_of(lines),
+    };
+    match open(&stage, device_of(lines)) {
+        Ok(opened) => play_named::<Brand, _>(&stage, opened),
+        Err(fault) => Some(Wrong::NotBegun(fault)),
+    }
+}
+
+// The lines of the scene that begins there.
+fn scene_at<'b, 'a>(lines: &'b [Line<'a>], begin: usize) -> &'b [Line<'a>] {
+    let rest = &lines[begin.min(lines.len())..];
+    let ends = |(index, line): (usize, &Line)| index > 0 && matches!(line, Line::Scene(_));
+    match rest.iter().enumerate().position(ends) {
+        Some(end) => &rest[..end],
+        None => rest,
+    }
+}
+
+// Whether a scene has something that is done, so that no table is played in vain.
+fn is_played(lines: &[Line]) -> bool {
+    let parts = [
+        Part::Before,
+        Part::Thread(0),
+        Part::Thread(1),
+        Part::Thread(2),
+        Part::Thread(LAST),
+        Part::Thread(4),
+        Part::Crowd,
+        Part::After,
+    ];
+    parts.iter().any(|part| has_part(lines, *part))
+}
+
+/// Plays the scenes of a table, each in a new store. Fails with what went wrong first.
+pub(super) fn play<R: Abort + Clock + Threads + Wait + Sync>(
+    rt: &R,
+    alloc: Global,
+    lines: &[Line],
+) -> Result<(), Fail> {
+    assert!(rt;
+        matches!(lines.first(), Some(Line::Scene(_))),
+        "a table begins with a scene"
+    );
+    for (index, line) in lines.iter().enumerate() {
+        if let Line::Scene(name) = line {
+            let scene = scene_at(lines, index);
+            assert!(rt; is_played(scene), "{name}: nothing is done");
+            let wrong = play_scene(rt, alloc, scene);
+            assert!(rt; wrong.is_none(), "{name}: {wrong:?}");
+        }
+    }
+    Ok(())
+}

@@ -1,0 +1,92 @@
+//! A second version of a program goes on with the store of the first one: it has steps that the first one did not have.
+ghost use Rattle.std.specs.Prelude.{◌≡◌};
+
+use super::worlds::{commit_to, committed, opened, step_to, write};
+use std::alloc::Global;
+use std::process::Abort;
+use std::test::Fail;
+use tmem_builtins::stored_steps;
+use tmem_disk::SimDisk;
+use tmem_fault::{Cause, Fault};
+use tmem_invariants::Invariants;
+use tmem_tables::Table;
+use tmem_tree::{Steps, StoredSteps, Tx};
+use tmem_world::{Event, Reply, World};
+
+/// Writes to variable 3 what the first step makes of two sevens.
+fn by_the_first_step(alloc: Global) -> Result<Tx, Fault> {
+    let args = vec![in alloc; 0, 0]?;
+    Ok(Tx::Seq(vec![in alloc;
+        Tx::Put { reg: 0, number: 7 },
+        Tx::Step {
+            index: 0,
+            args,
+            out: 0
+        },
+        Tx::Write { var: 3, reg: 0 },
+    ]?))
+}
+
+/// Plays the first version on a new device, which it hands back: it writes, and makes that durable.
+fn begin_on<T: Invariants + Drop, S: StoredSteps + Drop>(
+    rt: &impl Abort,
+    alloc: Global,
+    table: T,
+    steps: S,
+) -> Result<SimDisk, Fault> {
+    let mut world = opened(alloc, table, steps)?;
+    play_first(rt, alloc, &mut world)?;
+    Ok(world.into_disk())
+}
+
+/// Plays it in this world.
+fn play_first<T: Invariants + Drop, S: StoredSteps + Drop>(
+    rt: &impl Abort,
+    alloc: Global,
+    world: &mut World<SimDisk, T, S>,
+) -> Result<(), Fault> {
+    commit_to(rt, world, write(alloc, 0, 5)?, committed(0, 5));
+    let bad = Event::Begin {
+        slot: 0,
+        tx: by_the_first_step(alloc)?,
+    };
+    step_to(rt, world, bad, Reply::Fault(Fault::BadPlan(Cause::BadStep)));
+    step_to(rt, world, Event::Flush, Reply::Durable(1));
+    Ok(())
+}
+
+/// Plays the second version on the device that the first one left.
+fn reopen_and_play<T: Invariants + Drop, S: StoredSteps + Drop>(
+    rt: &impl Abort,
+    alloc: Global,
+    disk: SimDisk,
+    table: T,
+    steps: S,
+) -> Result<(), Fault>
+    requires { T.vars table ≡ 4 }
+{
+    match World::open(alloc, disk, 4, 4, table, steps) {
+        Ok(world) => play_later(rt, alloc, world),
+        Err((fault, _disk)) => Err(fault),
+    }
+}
+
+/// Plays it in a world that was opened.
+fn play_later<T: Invariants + Drop, S: StoredSteps + Drop>(
+    rt: &impl Abort,
+    alloc: Global,
+    mut world: World<SimDisk, T, S>,
+) -> Result<(), Fault> {
+    commit_to(rt, &mut world, by_the_first_step(alloc)?, committed(1, 14));
+    Ok(())
+}
+
+#[test]
+fn a_store_outlives_the_steps_of_its_program(rt: HostRuntime) -> Result<(), Fail> {
+    let alloc = rt.alloc();
+    let none = Steps::of(Vec::new(alloc))?;
+    let disk = begin_on(&rt, alloc, Table::of(alloc, Vec::new(alloc), 4)?, none)?;
+    let table = Table::of(alloc, Vec::new(alloc), 4)?;
+    reopen_and_play(&rt, alloc, disk, table, stored_steps())?;
+    Ok(())
+}
