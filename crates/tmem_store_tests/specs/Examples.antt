@@ -1,4 +1,4 @@
--- What the tests' own table and steps mean.
+-- What the table and steps mean that scenes are played with.
 use Rattle.std.specs.Prelude.{◌≢◌, ℕ, ◌≤◌, true, List, [], ◌∷◌, All, codes, nat_eq, if◌then◌else◌}
 use Rattle.std.proofs.Common.{lit≤, not-suc-le-zero}
 use Rattle.std.proofs.lemmas.List.Kept.{AllPairs-cons}

@@ -1,4 +1,4 @@
--- What the tests' own tables mean.
+-- What the tables mean that stores for one thread and a front by one caller are opened with.
 use Rattle.std.specs.Prelude.{ℤ, pos, ◌+ℤ◌, Bool, List, [], ◌∷◌, codes, int_le, slice_index_or}
 use Rattle.tmem_builtins.specs.Builtins.{builtin_steps}
 use Rattle.tmem_builtins.specs.Invariants.{is_not_negative}

@@ -1,4 +1,4 @@
-//! Scenes that threads play on a front; and by calls, a store for one thread and a front by one caller.
+//! Scenes that threads play on a front; and by calls, a store for one thread, its tables of invariants, and a front by one caller.
 mod built;
 mod crashes;
 mod endings;

@@ -63,7 +63,7 @@ const REFUSED_ROOM: &[Call] = &[
 #[derive(Clone, Copy, Debug)]
 enum Task {
     /// Writes a 1 to variable 0.
-    Write,
+    WriteOne,
     /// Has each form. It writes a 5 to variable 0, and aborts with 7 where the number is not 0.
     EachForm(i64),
     /// Has 512 nodes, is 32 deep, writes this number to 64 variables, and retires 8 times and then checks 8 times that variable 0 is not
@@ -88,9 +88,9 @@ enum Ends {
     Otherwise,
 }
 
-/// By which calls what is settled, how often by each, and how it ends.
 type Row = (&'static [Call], Task, u32, Ends);
 
+/// By which calls what is settled, how often by each, and how it ends.
 const ROWS: &[Row] = &[
     (ALL, Task::EachForm(1), 1, Ends::Aborts(7)),
     (ALL, Task::Largest(-1), 1, Ends::Breaks),
@@ -102,32 +102,32 @@ const ROWS: &[Row] = &[
     (ALL, Task::EachForm(1), 1, Ends::Aborts(7)),
     (ALL, Task::Largest(-1), 1, Ends::Breaks),
     // 256 wait then
-    (&[Call::TryAtomically], Task::Write, 241, Ends::Commits),
+    (&[Call::TryAtomically], Task::WriteOne, 241, Ends::Commits),
     (REFUSED_ROOM, Task::Largest(1), 1, Ends::IsFull),
 ];
 
-/// What makes variable 0 a number, and is asked why it is refused.
+/// A question why what makes variable 0 a number is refused.
 #[derive(Clone, Copy)]
 enum Asked {
-    /// A plan that checks then that it is not negative, and makes it 2.
-    PlanThatChecks(i64),
-    Plan(i64),
-    Attempt(i64),
+    /// Of a plan that then checks that it is not negative, and makes it 2.
+    ByPlanThatChecks(i64),
+    ByPlan(i64),
+    ByAttempt(i64),
 }
 
-/// By which value of variable 0 it is refused, where that was 1: at the point of its check, and at the end. Some are not.
+/// What is answered in a store where variable 0 is 1: the value of it that is refused, at a check or at the end, or none.
 const ASKED: &[(Asked, Option<i64>)] = &[
-    (Asked::PlanThatChecks(-7), Some(-7)),
-    (Asked::Plan(-4), Some(-4)),
-    (Asked::Plan(1), None),
-    (Asked::Attempt(-5), Some(-5)),
-    (Asked::Attempt(1), None),
+    (Asked::ByPlanThatChecks(-7), Some(-7)),
+    (Asked::ByPlan(-4), Some(-4)),
+    (Asked::ByPlan(1), None),
+    (Asked::ByAttempt(-5), Some(-5)),
+    (Asked::ByAttempt(1), None),
 ];
 
 impl Task {
     fn tx(self, alloc: Global) -> Result<Tx, AllocError> {
         match self {
-            Task::Write => write_number(alloc, 1),
+            Task::WriteOne => write_number(alloc, 1),
             Task::EachForm(aborts) => each_form(alloc, aborts),
             Task::Largest(number) => deepened(alloc, largest(alloc, number)?),
             Task::Reads => reads(alloc),
@@ -139,15 +139,15 @@ impl Task {
 impl Asked {
     fn tx(self, alloc: Global) -> Result<Tx, AllocError> {
         match self {
-            Asked::PlanThatChecks(number) => check_negative(alloc, number),
-            Asked::Plan(number) => write_number(alloc, number),
-            Asked::Attempt(number) => write_number(alloc, number),
+            Asked::ByPlanThatChecks(number) => check_negative(alloc, number),
+            Asked::ByPlan(number) => write_number(alloc, number),
+            Asked::ByAttempt(number) => write_number(alloc, number),
         }
     }
 
     fn what(self) -> &'static str {
         match self {
-            Asked::Attempt(_) => "an attempt",
+            Asked::ByAttempt(_) => "an attempt",
             _ => "a plan",
         }
     }
@@ -440,7 +440,7 @@ fn why_of<
     asked: Asked,
 ) -> Result<Option<i64>, Fault> {
     match asked {
-        Asked::Attempt(_) => why_attempt(rt, front, pass, tx),
+        Asked::ByAttempt(_) => why_attempt(rt, front, pass, tx),
         _ => why(rt, front, pass, tx),
     }
 }

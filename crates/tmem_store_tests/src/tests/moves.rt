@@ -225,27 +225,23 @@ impl Task {
             Task::ReadAndRegister => read_and_register(alloc),
             Task::Retire => Ok(retire()),
             Task::WriteAndRetire(var, number) => both(alloc, write(alloc, var, number)?, retire()),
-            _ => long(alloc, self.stepping(alloc)?),
-        }
-    }
-
-    // What a long plan does: it calls a step.
-    fn stepping(&self, alloc: Global) -> Result<Tx, AllocError> {
-        match *self {
-            Task::NeedOne => need_one(alloc, 2),
-            Task::NeedEither(var, other) => need_either(alloc, var, other),
-            Task::NeedLast(var) => need_last(alloc, var),
-            Task::AddBehind(var, least, other) => add_behind(alloc, var, least, other),
-            Task::AddOnceThereIsOne => both(alloc, add_one(alloc)?, need_one(alloc, 2)?),
-            Task::AddAndRegister => both(alloc, add_one(alloc)?, check()),
-            _ => add_one(alloc),
+            Task::AddOne => long(alloc, add_one(alloc)),
+            Task::NeedOne => long(alloc, need_one(alloc, 2)),
+            Task::NeedEither(var, other) => long(alloc, need_either(alloc, var, other)),
+            Task::NeedLast(var) => long(alloc, need_last(alloc, var)),
+            Task::AddBehind(var, least, other) => long(alloc, add_behind(alloc, var, least, other)),
+            Task::AddOnceThereIsOne => long(
+                alloc,
+                both(alloc, add_one(alloc)?, need_one(alloc, 2)?),
+            ),
+            Task::AddAndRegister => long(alloc, both(alloc, add_one(alloc)?, check())),
         }
     }
 }
 
 // With 64 nodes behind it that do nothing: no short plan.
-fn long(alloc: Global, tx: Tx) -> Result<Tx, AllocError> {
-    let mut txs = vec![in alloc; tx]?;
+fn long(alloc: Global, tx: Result<Tx, AllocError>) -> Result<Tx, AllocError> {
+    let mut txs = vec![in alloc; tx?]?;
     for _ in 0..MAX_SHORT {
         txs.push(Tx::Skip)?;
     }

@@ -32,36 +32,45 @@ pub(super) fn add(
     Ok(())
 }
 
-/// Checks 8 names, from this number on, or retires them.
-fn eight(alloc: Global, from: u8, checks: bool) -> Result<Tx, Fault>
+/// What a transaction does with each of its names.
+#[derive(Clone, Copy)]
+pub(super) enum Use {
+    /// Registers it, by a check.
+    Registers,
+    Retires,
+}
+
+impl Use {
+    fn of(self, name: Name) -> Tx {
+        match self {
+            Use::Registers => Tx::Check { name },
+            Use::Retires => Tx::Retire { name },
+        }
+    }
+}
+
+/// Registers, or retires, the 8 names from this number on.
+fn eight(alloc: Global, from: u8, each: Use) -> Result<Tx, Fault>
     requires { from < 64 }
 {
     let mut all = Vec::new(alloc);
     for n in from..from + 8 {
-        all.push(of_name(numbered(n)?, checks))?;
+        all.push(each.of(numbered(n)?))?;
     }
     Ok(Tx::Seq(all))
 }
 
-fn of_name(name: Name, checks: bool) -> Tx {
-    if checks {
-        Tx::Check { name }
-    } else {
-        Tx::Retire { name }
-    }
-}
-
-/// Registers 8 names in the transaction of this number behind the first, or retires them.
+/// Whether the transaction for the names from 8 times this number on commits, that many behind the first.
 fn commits_eight<T: Invariants + Drop, S: StoredSteps + Drop>(
     alloc: Global,
     world: &mut World<SimDisk, T, S>,
     first: u64,
     number: u8,
-    registers: bool,
+    each: Use,
 ) -> Result<bool, Fault>
     requires { number < 8 }
 {
-    let tx = eight(alloc, 8 * number, registers)?;
+    let tx = eight(alloc, 8 * number, each)?;
     let wanted = committed(first.wrapping_add(u64::from(number)), 0);
     Ok(commit(world, tx) == wanted)
 }
@@ -96,17 +105,17 @@ pub(super) fn has_none<T: Invariants + Drop, S: StoredSteps + Drop>(
     are_registered(world, false)
 }
 
-/// Registers 64 names, 8 in a transaction, of which this is the first number, or retires them.
+/// Registers, or retires, 64 names, 8 in a transaction. The first transaction gets this number.
 pub(super) fn commit_all<T: Invariants + Drop, S: StoredSteps + Drop>(
     rt: &impl Abort,
     alloc: Global,
     world: &mut World<SimDisk, T, S>,
     first: u64,
-    registers: bool,
+    each: Use,
 ) -> Result<(), Fault> {
     for number in 0..8u8 {
-        assert!(rt; commits_eight(alloc, world, first, number, registers)?);
+        assert!(rt; commits_eight(alloc, world, first, number, each)?);
     }
-    assert!(rt; are_registered(world, registers)?);
+    assert!(rt; are_registered(world, matches!(each, Use::Registers))?);
     Ok(())
 }

@@ -3,7 +3,7 @@
 ghost use Rattle.std.specs.Prelude.{◌≡◌, length};
 ghost use Rattle.tmem_store_tests.specs.Programs.{is_last_not_negative};
 
-use super::names::{add, commit_all, has_all, has_none, numbered};
+use super::names::{Use, add, commit_all, has_all, has_none, numbered};
 use super::worlds::{commit_to, committed, formatted, step_to, write};
 use std::alloc::Global;
 use std::process::Abort;
@@ -42,7 +42,7 @@ fn fill<T: Invariants + Drop, S: StoredSteps + Drop>(
     alloc: Global,
     world: &mut World<SimDisk, T, S>,
 ) -> Result<(), Fault> {
-    commit_all(rt, alloc, world, 0, true)?;
+    commit_all(rt, alloc, world, 0, Use::Registers)?;
     let refused = Settled::Refused(numbered(0)?);
     commit_to(rt, world, write(alloc, 15, -1)?, Reply::Settled(refused));
     for number in 8..64u32 {
@@ -92,7 +92,7 @@ fn retire_and_reopen<T: Invariants + Drop, S: StoredSteps + Drop>(
     alloc: Global,
     world: &mut World<SimDisk, T, S>,
 ) -> Result<(), Fault> {
-    commit_all(rt, alloc, world, 64, false)?;
+    commit_all(rt, alloc, world, 64, Use::Retires)?;
     commit_to(rt, world, write(alloc, 15, -1)?, committed(72, -1));
     step_to(rt, world, Event::Flush, Reply::Durable(73));
     step_to(rt, world, Event::Reopen, Reply::Opened(73));
