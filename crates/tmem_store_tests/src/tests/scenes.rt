@@ -466,11 +466,34 @@ fn is_played(lines: &[Line]) -> bool {
     parts.iter().any(|part| has_part(lines, *part))
 }
 
-/// Plays the scenes of a table, each in a new store. Fails with what went wrong first.
-pub(super) fn play<R: Abort + Clock + Threads + Wait + Sync>(
+/// How many scenes are played at once.
+const LANES: usize = 4;
+
+// What went wrong first in the scenes of a lane, each fourth one from that of its number on, and in which scene.
+fn play_lane<'a, R: Clock + Threads + Wait + Sync>(
+    rt: &R,
+    alloc: Global,
+    lines: &[Line<'a>],
+    lane: usize,
+) -> Option<(&'a str, Wrong)> {
+    let scenes = lines.iter().enumerate().filter_map(|(index, line)| match line {
+        Line::Scene(name) => Some((index, *name)),
+        _ => None,
+    });
+    for (begin, name) in scenes.skip(lane).step_by(LANES) {
+        if let Some(wrong) = play_scene(rt, alloc, scene_at(lines, begin)) {
+            return Some((name, wrong));
+        }
+    }
+    None
+}
+
+/// Plays the scenes of a table, each in a new store, so many times, and some at once. Fails with something that went wrong.
+pub(super) fn play_times<R: Abort + Clock + Threads + Wait + Sync>(
     rt: &R,
     alloc: Global,
     lines: &[Line],
+    times: u8,
 ) -> Result<(), Fail> {
     assert!(rt;
         matches!(lines.first(), Some(Line::Scene(_))),
@@ -478,11 +501,30 @@ pub(super) fn play<R: Abort + Clock + Threads + Wait + Sync>(
     );
     for (index, line) in lines.iter().enumerate() {
         if let Line::Scene(name) = line {
-            let scene = scene_at(lines, index);
-            assert!(rt; is_played(scene), "{name}: nothing is done");
-            let wrong = play_scene(rt, alloc, scene);
-            assert!(rt; wrong.is_none(), "{name}: {wrong:?}");
+            assert!(rt;
+                is_played(scene_at(lines, index)),
+                "{name}: nothing is done"
+            );
         }
     }
+    let lanes = LANES * usize::from(times);
+    let ended = map_indices(
+        rt,
+        alloc,
+        lanes,
+        &|lane| play_lane(rt, alloc, lines, lane % LANES),
+    )?;
+    if let Some((name, wrong)) = ended.into_iter().flatten().next() {
+        panic!(rt; "{name}: {wrong:?}");
+    }
     Ok(())
+}
+
+/// The same, once.
+pub(super) fn play<R: Abort + Clock + Threads + Wait + Sync>(
+    rt: &R,
+    alloc: Global,
+    lines: &[Line],
+) -> Result<(), Fail> {
+    play_times(rt, alloc, lines, 1)
 }
