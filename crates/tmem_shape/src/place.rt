@@ -62,7 +62,7 @@ impl fmt::Display for ShapePlace {
     }
 }
 
-// A place in the invariants.
+// A place in the invariants; nothing of another place.
 fn write_in_invariants<W: fmt::Write>(
     f: &mut fmt::Formatter<W>,
     place: &ShapePlace,
@@ -76,7 +76,11 @@ fn write_in_invariants<W: fmt::Write>(
         }
         ShapePlace::Term(i, term) => write!(f, "/invariants/{i}/sum/{term}"),
         ShapePlace::TermItem(i, term, item) => write!(f, "/invariants/{i}/sum/{term}/{item}"),
-        _ => Ok(()),
+        ShapePlace::Text { .. }
+        | ShapePlace::Whole
+        | ShapePlace::Member(_)
+        | ShapePlace::Unknown(_)
+        | ShapePlace::Name(_) => Ok(()),
     }
 }
 

@@ -86,7 +86,7 @@ fn find_in_when(alloc: Global, body: &Value) -> Result<(), WrongValue>
     inside(PointerStep::Item(2), find_in_tx(alloc, other))
 }
 
-// Two transactions are looked at as those of a sequence are.
+// An array of two transactions: its items are searched as those of a sequence.
 #[cycle(find)]
 fn find_in_or_else(alloc: Global, body: &Value) -> Result<(), WrongValue>
     ensures { IfErr result (λ w. IsTrueOf part (view body.now) w) }
