@@ -9,7 +9,7 @@ use Rattle.tmem_script.specs.Statuses.{status_of}
 use Rattle.tmem_script.specs.declared.failure.ProgramFailure.{ProgramFailure}
 use Rattle.tmem_run.specs.declared.playing.Played.{Played}
 use Rattle.tmem_args.specs.CommandLine.{IsHelpOrVersion, HasRequest}
-use Rattle.tmem_commands.specs.Outcomes.{MayBeRead}
+use Rattle.tmem_cli.specs.Commands.{MayBeRead}
 use Rattle.tmem_cli.specs.Outcomes.{FailsWith}
 
 -- the same of words that ask for the same

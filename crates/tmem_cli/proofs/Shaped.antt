@@ -9,8 +9,8 @@ use Rattle.tmem_invariants.specs.Answers.{Gives, IsMeant}
 use Rattle.tmem_invariants.specs.Chosen.{meaning_also}
 use Rattle.tmem_invariants.specs.Meanings.{Meanings}
 use Rattle.tmem_invariants.specs.TableNames.{AreDistinct}
-use Rattle.tmem_linear.specs.Sums.{IsAnswerOfSum, is_sum_within}
-use Rattle.tmem_linear.specs.declared.linear.Linear.{Linear}
+use Rattle.tmem_tables.specs.Sums.{IsAnswerOfSum, is_sum_within}
+use Rattle.tmem_tables.specs.declared.linear.Linear.{Linear}
 use Rattle.tmem_cli.specs.Shaped.{meanings_of, names_in}
 
 -- what is stated of one

@@ -6,9 +6,9 @@ use Rattle.tmem_script.specs.declared.failure.ProgramFailure.{ProgramFailure}
 use Rattle.tmem_threads.specs.declared.workers.Work.{Work}
 use Rattle.tmem_run.specs.declared.playing.Played.{Played}
 use Rattle.tmem_args.specs.CommandLine.{AsksToPlay, AsksToCount, AsksToBench, AsksToShow, AsksToInit, AsksToServe, AsksToCheck, AsksForHelp, AreNumbersIn, IsNumberIfAny, path_in, disk_in, text_in}
-use Rattle.tmem_commands.specs.Checked.{HasFlaws, IsScriptThere}
-use Rattle.tmem_commands.specs.Made.{MakesStore}
-use Rattle.tmem_commands.specs.Outcomes.{MayBeRead, PlaysRead, IsWhyNotPlayed, CountsUp, IsWhyNotCounted, IsWhyNotTimed, TimesJobs}
+use Rattle.tmem_cli.specs.Checked.{HasFlaws, IsScriptThere}
+use Rattle.tmem_cli.specs.Made.{MakesStore}
+use Rattle.tmem_cli.specs.Commands.{MayBeRead, PlaysRead, IsWhyNotPlayed, CountsUp, IsWhyNotCounted, IsWhyNotTimed, TimesJobs}
 use Rattle.tmem_cli.specs.Shaped.{ServesAnyShape}
 
 -- a failure of this status is why a script was not played to its end

@@ -4,8 +4,8 @@ use Rattle.std.specs.Io.KnownBytes.{IsAtEnd}
 use Rattle.tmem_core.specs.Program.{Program}
 use Rattle.tmem_invariants.specs.Meanings.{Meanings}
 use Rattle.tmem_invariants.specs.Chosen.{meaning_also}
-use Rattle.tmem_linear.specs.Sums.{is_sum_within}
-use Rattle.tmem_linear.specs.declared.linear.Linear.{Linear}
+use Rattle.tmem_tables.specs.Sums.{is_sum_within}
+use Rattle.tmem_tables.specs.declared.linear.Linear.{Linear}
 use Rattle.tmem_builtins.specs.Builtins.{builtin_steps}
 use Rattle.tmem_shape.specs.Shapes.{IsShapeText}
 use Rattle.tmem_shape.specs.declared.shape.StoreShape.{StoreShape}
@@ -19,7 +19,7 @@ use Rattle.tmem_desk.specs.declared.failure.DeskFailure.TheVariants as desk
 use Rattle.tmem_advice.specs.declared.failure.StoreFailure.{StoreFailure}
 use Rattle.tmem_advice.specs.declared.failure.StoreFailure.TheVariants as store
 use Rattle.tmem_run.specs.Builtin.{builtin_arities}
-use Rattle.tmem_commands.specs.Made.{always_in}
+use Rattle.tmem_cli.specs.Made.{always_in}
 
 -- the names of invariants
 abbrev pub names_in : List Linear → List (List ℕ)

@@ -3,17 +3,20 @@ ghost use Rattle.std.specs.Prelude.{◌≡◌, ◌≤◌, None, map, string_byte
 ghost use Rattle.tmem_args.specs.CommandLine.{AreRefused, AsksToCheck, AsksToPlay, AsksToServe, ExplainsNothing, disk_in, path_in};
 ghost use Rattle.tmem_cli.specs.Outcomes.{HasNoScript, IsDone, IsFailed};
 
+use crate::bench::time_jobs;
+use crate::check::check_script;
+use crate::count::count_in_threads;
+use crate::init::init_store;
+use crate::script::run_script;
 use crate::serve::serve;
+use crate::show::show_store;
+use crate::status::{answer, conclude, conclude_check, conclude_store};
 use std::fs::{File, Files};
 use std::io::{Read, Write};
 use std::rt::Clock;
 use std::sync::Wait;
 use std::thread::Threads;
 use tmem_args::{Asked, asked_of};
-use tmem_commands::{
-    answer, check_script, conclude, conclude_check, conclude_store, count_in_threads, init_store,
-    run_script, show_store, time_jobs,
-};
 use tmem_run::{Notes, Played};
 
 /// Does what the words of a command line say, the program's name first, and answers the status: 0 where help or the

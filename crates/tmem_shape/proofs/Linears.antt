@@ -6,7 +6,7 @@ use Rattle.serde_json.specs.Find.{get}
 use Rattle.serde_json.specs.View.{view}
 use Rattle.serde_json.specs.declared.value.Value.{Value}
 use Rattle.tmem_forms.specs.TxForms.{array_of}
-use Rattle.tmem_linear.specs.declared.linear.Linear.{Linear}
+use Rattle.tmem_tables.specs.declared.linear.Linear.{Linear}
 use Rattle.tmem_shape.specs.Shapes.{HasInvariants, IsInvariant}
 use Rattle.tmem_shape.proofs.Arrays.{AllZip-shown, array_same}
 use Rattle.tmem_shape.proofs.Found.{one_there}

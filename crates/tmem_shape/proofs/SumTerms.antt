@@ -8,8 +8,8 @@ use Rattle.serde_json.specs.View.{view}
 use Rattle.serde_json.specs.declared.value.Value.{Value}
 use Rattle.tmem_forms.specs.TxForms.{array_of, integer, natural}
 use Rattle.tmem_invariants.specs.TableNames.{AreBelow}
-use Rattle.tmem_linear.specs.declared.weight.Weight.{Weight}
-use Rattle.tmem_linear.specs.declared.weight.Weight.TheVariants.{Value as Times, Nonzero}
+use Rattle.tmem_tables.specs.declared.weight.Weight.{Weight}
+use Rattle.tmem_tables.specs.declared.weight.Weight.TheVariants.{Value as Times, Nonzero}
 use Rattle.tmem_shape.specs.Shapes.{HasSum, WeightFits, term_form, terms_form}
 use Rattle.tmem_shape.proofs.Arrays.{array_same}
 use Rattle.tmem_shape.proofs.Found.{one_there}

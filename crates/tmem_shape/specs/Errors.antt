@@ -1,6 +1,6 @@
 -- Why a text was not read.
 use Rattle.std.specs.Prelude.{◌≡◌, ℕ, List, All}
-use Rattle.tmem_linear.specs.declared.linear.Linear.{Linear}
+use Rattle.tmem_tables.specs.declared.linear.Linear.{Linear}
 use Rattle.tmem_shape.specs.Shapes.{BreaksFirst, CanHold}
 use Rattle.tmem_shape.specs.declared.error.ShapeError.{ShapeError}
 use Rattle.tmem_shape.specs.declared.error.ShapeError.TheVariants.{Memory, NoShape}

@@ -9,10 +9,10 @@ use Rattle.serde_json.specs.Read.{read}
 use Rattle.tmem_fault.specs.Name.{IsLetter, IsName, has_name}
 use Rattle.tmem_forms.specs.TxForms.{natural, integer, array_of}
 use Rattle.tmem_invariants.specs.TableNames.{AreBelow, AreDistinct, IsFootprint}
-use Rattle.tmem_linear.specs.Bounds.{is_to}
-use Rattle.tmem_linear.specs.declared.linear.Linear.{Linear}
-use Rattle.tmem_linear.specs.declared.weight.Weight.{Weight}
-use Rattle.tmem_linear.specs.declared.weight.Weight.TheVariants.{Value, Nonzero}
+use Rattle.tmem_tables.specs.Bounds.{is_to}
+use Rattle.tmem_tables.specs.declared.linear.Linear.{Linear}
+use Rattle.tmem_tables.specs.declared.weight.Weight.{Weight}
+use Rattle.tmem_tables.specs.declared.weight.Weight.TheVariants.{Value, Nonzero}
 use Rattle.tmem_forms.specs.Members.{HasOnly}
 use Rattle.tmem_shape.specs.declared.shape.StoreShape.{StoreShape}
 

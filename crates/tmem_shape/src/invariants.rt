@@ -5,7 +5,7 @@ ghost use Rattle.serde_json.specs.Data.{string};
 ghost use Rattle.serde_json.specs.View.{view};
 ghost use Rattle.tmem_fault.specs.Name.{IsName};
 ghost use Rattle.tmem_invariants.specs.TableNames.{AreDistinct, has_name};
-ghost use Rattle.tmem_linear.specs.declared.linear.Linear.{Linear};
+ghost use Rattle.tmem_tables.specs.declared.linear.Linear.{Linear};
 ghost use Rattle.tmem_shape.specs.Errors.{RefusesText};
 ghost use Rattle.tmem_shape.specs.Keys.{key_text};
 ghost use Rattle.tmem_shape.specs.Shapes.{BreaksFirst, CanHold, HasAlways, HasBound, HasInvariants, HasName, IsInvariant};
@@ -22,7 +22,7 @@ use std::alloc::Global;
 use tmem_builtins::names;
 use tmem_fault::Name;
 use tmem_invariants::MAX_INVARIANTS;
-use tmem_linear::Linear;
+use tmem_tables::Linear;
 
 /// The invariants of a shape with so many variables.
 pub(crate) fn invariants_of(

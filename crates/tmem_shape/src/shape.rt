@@ -15,7 +15,7 @@ use crate::why::ShapeFlaw;
 use serde_json::Value;
 use std::alloc::{AllocError, Global};
 use tmem_fault::Name;
-use tmem_linear::Linear;
+use tmem_tables::Linear;
 use tmem_record::{LEAST_SLOTS, MOST_SLOTS, MOST_VARS};
 
 /// What a store is: its variables, its log, its invariants, and names of variables.

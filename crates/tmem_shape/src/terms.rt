@@ -3,7 +3,7 @@ ghost use Rattle.std.specs.Prelude.{◌≡◌, ◌↔◌, ◌<◌, ◌∷◌, []
 ghost use Rattle.serde_json.specs.Data.{string};
 ghost use Rattle.serde_json.specs.View.{view};
 ghost use Rattle.tmem_forms.specs.TxForms.{array_of};
-ghost use Rattle.tmem_linear.specs.declared.weight.Weight.{Weight};
+ghost use Rattle.tmem_tables.specs.declared.weight.Weight.{Weight};
 ghost use Rattle.tmem_shape.specs.Errors.{RefusesText};
 ghost use Rattle.tmem_shape.specs.Shapes.{AreTerms, HasSum, WeightFits, term_form, terms_form};
 
@@ -16,8 +16,7 @@ use crate::why::ShapeFlaw;
 use serde_json::Value;
 use std::alloc::Global;
 use tmem_invariants::MAX_FOOTPRINT;
-use tmem_linear::Weight;
-use tmem_tables::first_repeated;
+use tmem_tables::{Weight, first_repeated};
 
 /// The variables of an invariant's sum, and how each counts.
 pub(crate) fn sum_of(

@@ -1,2 +1,4 @@
+pub mod Sizes
 mod Tested
+pub mod Totals
 mod Touching

@@ -4,8 +4,7 @@ use std::alloc::Global;
 use std::test::Fail;
 use tmem_fault::Fault;
 use tmem_invariants::Invariants;
-use tmem_linear::{Linear, Weight};
-use tmem_tables::TableOf;
+use tmem_tables::{Linear, TableOf, Weight};
 
 const VARS: u16 = 1024;
 

@@ -8,7 +8,7 @@ use Rattle.tmem_script.specs.Statuses.{status_of}
 use Rattle.tmem_script.specs.declared.failure.ProgramFailure.{ProgramFailure}
 use Rattle.tmem_script.specs.declared.failure.ProgramFailure.TheVariants as failure
 use Rattle.tmem_script.specs.declared.script.ScriptError.TheVariants as error
-use Rattle.tmem_commands.specs.Outcomes.{MayBeRead, PlaysRead}
+use Rattle.tmem_cli.specs.Commands.{MayBeRead, PlaysRead}
 use Rattle.tmem_run.specs.declared.playing.Played.{Played}
 use Rattle.tmem_cli.proofs.Outcomes.{FailsWith-along, is_there, no_request, of_failure, of_status, request_among}
 use Rattle.tmem_cli.proofs.words.run_words.Goals as goal

@@ -4,7 +4,7 @@ use Rattle.std.proofs.lemmas.List.{length-map}
 use Rattle.serde_json.specs.View.{view}
 use Rattle.serde_json.specs.declared.value.Value.{Value}
 use Rattle.tmem_fault.specs.Distinct.{AreDistinct}
-use Rattle.tmem_linear.specs.declared.linear.Linear.{Linear}
+use Rattle.tmem_tables.specs.declared.linear.Linear.{Linear}
 use Rattle.tmem_shape.specs.Shapes.{HasInvariants, IsInvariant}
 use Rattle.tmem_shape.proofs.Arrays.{array_found, length-AllZip}
 use Rattle.tmem_shape.proofs.Linears.{forms_found, names_once}

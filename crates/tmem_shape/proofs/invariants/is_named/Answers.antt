@@ -1,7 +1,7 @@
 use Rattle.std.proofs.Common.{bytes_eq, sym, ◌∙◌, rules, tests}
 use Rattle.std.proofs.lemmas.Iterator.{YieldsList-from_slice}
 use Rattle.std.proofs.lemmas.Iterator.Search.{any_from_yields_List}
-use Rattle.tmem_linear.specs.declared.linear.Linear.{Linear}
+use Rattle.tmem_tables.specs.declared.linear.Linear.{Linear}
 use Rattle.tmem_forms.proofs.Laws.{any_of_map}
 use Rattle.tmem_shape.proofs.invariants.is_named.Goals as goal
 

@@ -1,7 +1,7 @@
 use Rattle.std.proofs.Common.{◌+◌, List, map, take, sym, subst}
 use Rattle.std.specs.List.{AllZip}
 use Rattle.serde_json.specs.View.{view}
-use Rattle.tmem_linear.specs.declared.linear.Linear.{Linear}
+use Rattle.tmem_tables.specs.declared.linear.Linear.{Linear}
 use Rattle.tmem_shape.specs.Shapes.{IsInvariant}
 use Rattle.tmem_shape.proofs.Arrays.{AllZip-take_more, no_AllZip}
 use Rattle.tmem_shape.proofs.Refusals.{passed_on}

@@ -2,7 +2,7 @@ use Rattle.std.proofs.Common.{bytes_eq, map, sym, ap, ◌∙◌}
 use Rattle.std.specs.List.{list_any}
 use Rattle.std.proofs.lemmas.List.{length-map, take-map}
 use Rattle.std.proofs.lemmas.Slice.Eq.{bytes_eq-Decides}
-use Rattle.tmem_linear.specs.declared.linear.Linear.{Linear}
+use Rattle.tmem_tables.specs.declared.linear.Linear.{Linear}
 use Rattle.std.proofs.lemmas.Option.{get_or_from_slice_get, slice_get_within}
 use Rattle.tmem_shape.proofs.First.{distinct_broken}
 use Rattle.tmem_forms.proofs.Laws.{distinct_more, distinct_whole, not_distinct, shown_at}

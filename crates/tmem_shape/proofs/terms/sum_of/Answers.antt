@@ -3,7 +3,7 @@ use Rattle.std.proofs.lemmas.List.{length-map}
 use Rattle.serde_json.specs.View.{view}
 use Rattle.tmem_fault.specs.Distinct.{AreDistinct}
 use Rattle.tmem_forms.specs.TxForms.{array_of}
-use Rattle.tmem_linear.specs.declared.weight.Weight.{Weight}
+use Rattle.tmem_tables.specs.declared.weight.Weight.{Weight}
 use Rattle.tmem_shape.specs.Shapes.{AreTerms, HasSum, terms_form}
 use Rattle.tmem_shape.proofs.Arrays.{array_found}
 use Rattle.tmem_shape.proofs.Refusals.{passed_on}

@@ -2,7 +2,7 @@ use Rattle.std.proofs.lemmas.Grind.{common_steps}
 use Rattle.std.proofs.Common.{◌≡◌, ◌<◌, ℕ, List, [], ◌∷◌, ◌++◌, All, map, take, sym, ap, ◌∙◌, subst, arith}
 use Rattle.std.proofs.lemmas.List.Elements.{All-push}
 use Rattle.serde_json.specs.View.{view}
-use Rattle.tmem_linear.specs.declared.weight.Weight.{Weight}
+use Rattle.tmem_tables.specs.declared.weight.Weight.{Weight}
 use Rattle.tmem_shape.specs.Shapes.{AreTerms, WeightFits, term_form, terms_form}
 use Rattle.tmem_shape.proofs.Arrays.{map-take_more}
 use Rattle.tmem_shape.proofs.Refusals.{passed_on}

@@ -1,7 +1,7 @@
 use Rattle.std.proofs.Common.{◌≡◌, ℕ, List, Some, sym, ◌∙◌, subst}
 use Rattle.serde_json.specs.View.{view}
 use Rattle.tmem_forms.specs.TxForms.{natural}
-use Rattle.tmem_linear.specs.declared.linear.Linear.{Linear}
+use Rattle.tmem_tables.specs.declared.linear.Linear.{Linear}
 use Rattle.tmem_shape.specs.Shapes.{HasInvariants, IsShape}
 use Rattle.tmem_shape.specs.declared.shape.StoreShape.{StoreShape}
 use Rattle.tmem_shape.proofs.Refusals.{passed_on}

@@ -1,3 +1,0 @@
-pub mod Checked
-pub mod Made
-pub mod Outcomes
