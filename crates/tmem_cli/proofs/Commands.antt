@@ -1,5 +1,5 @@
 -- What became of a script.
-use Rattle.std.proofs.Common.{◌≡◌, ℕ, List, [], Option, Some, None, Bor, refl, sym, inl, option_map, append-nil}
+use Rattle.std.proofs.Common.{◌≡◌, ℕ, List, [], Option, Some, None, Bor, refl, sym, ap, inl, inr, option_map, append-nil}
 use Rattle.std.specs.Prelude.{IsSome}
 use Rattle.std.proofs.lemmas.Bool.{false≢true}
 use Rattle.std.proofs.lemmas.Option.{none-some}
@@ -8,6 +8,8 @@ use Rattle.tmem_effect.specs.State.{State, first_state}
 use Rattle.tmem_world.specs.WorldModel.{WorldModel}
 use Rattle.tmem_journal.specs.Contents.{Position, first_position}
 use Rattle.tmem_script.specs.Errors.{IsUnread}
+use Rattle.tmem_script.specs.Statuses.{status_of}
+use Rattle.tmem_script.specs.declared.failure.ProgramFailure.{ProgramFailure}
 use Rattle.tmem_script.specs.declared.failure.ProgramFailure.TheVariants.{Output}
 use Rattle.tmem_script.specs.declared.script.ScriptEntry.{ScriptEntry}
 use Rattle.tmem_script.specs.declared.script.ScriptError.{ScriptError}
@@ -16,7 +18,7 @@ use Rattle.tmem_run.specs.declared.playing.Played.{Played}
 use Rattle.tmem_cli.specs.Commands.{IsWhyNotRead}
 use Rattle.tmem_explain.specs.Limits.{IsNoScript}
 use Rattle.tmem_run.specs.Printed.{PlaysFrom}
-use Rattle.tmem_run.specs.Stored.{PlaysWhere, StopsWhere}
+use Rattle.tmem_run.specs.Stored.{PlaysWhere, StopsPlaying, StopsWhere}
 use Rattle.tmem_run.proofs.Laws.{Appends-keeps}
 
 -- the text was not read
@@ -69,3 +71,18 @@ pub hands_back : (path : Option (Bor (List ℕ))) (device : Option Played) (vars
 hands_back None device vars slots entries before after some so none = absurd (false≢true some)
 hands_back (Some path) None vars slots entries before after some so none = so
 hands_back (Some path) (Some device) vars slots entries before after some so none = absurd (none-some device (sym none))
+
+-- what stops a script that was read has status 1
+stops_with_one_on : (path : Option (List ℕ)) (left : Option Played) (vars slots : ℕ) (entries : List ScriptEntry) (f : ProgramFailure) → StopsWhere path left vars slots entries f → status_of f ≡ 1
+stops_with_one_on None left vars slots entries f why = elim why [
+  | inl output ↦ ap status_of output
+  | inr refused ↦ elim refused [ | inl memory ↦ ap status_of memory | inr device ↦ ap status_of device ]
+]
+stops_with_one_on (Some path) None vars slots entries f why = elim why [ | inl memory ↦ ap status_of memory | inr device ↦ ap status_of device ]
+stops_with_one_on (Some path) (Some it) vars slots entries f why = elim why.1 [ | inl output ↦ ap status_of output.0 | inr refused ↦ ap status_of refused.1 ]
+
+pub stops_with_one : (path : Option (List ℕ)) (left : Option Played) (vars slots : ℕ) (entries : List ScriptEntry) (f : ProgramFailure) → StopsPlaying path left vars slots entries f → status_of f ≡ 1
+stops_with_one path left vars slots entries f why = elim why [
+  | inl geometry ↦ ap status_of geometry.0
+  | inr stops ↦ stops_with_one_on path left vars slots entries f stops.1
+]
