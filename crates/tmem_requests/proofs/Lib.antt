@@ -3,6 +3,7 @@ mod Each
 pub mod Laws
 mod Members
 mod Misfits
+mod Nodes
 mod Numerals
 mod OneReading
 mod Puts
