@@ -12,4 +12,6 @@ mod Reasoned
 mod Retired
 mod Same
 mod Spelled
+mod Unread
+mod Written
 mod Wrongs
