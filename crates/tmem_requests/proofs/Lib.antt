@@ -3,6 +3,7 @@ mod Each
 pub mod Laws
 mod Members
 mod Misfits
+mod Nodes
 mod Numerals
 mod OneReading
 mod Puts
@@ -11,4 +12,6 @@ mod Reasoned
 mod Retired
 mod Same
 mod Spelled
+mod Unread
+mod Written
 mod Wrongs

@@ -42,14 +42,15 @@ pub enum RequestFlaw {
     NotRequest,
 }
 
-impl fmt::Display for RequestFlaw {
-    ghost use Rattle.std.specs.Prelude.{Some};
+impl RequestFlaw {
+    ghost use Rattle.std.specs.Prelude.{◌≡◌};
     ghost use Rattle.tmem_requests.specs.Refusals.{request_why_text};
 
-    ghost output = { λ why. Some (request_why_text why) };
-
-    fn fmt<W: fmt::Write>(&self, f: &mut fmt::Formatter<W>) -> fmt::Result {
-        f.write_str(match self {
+    // It, in words.
+    fn text(self) -> &'static str
+        ensures { result.now ≡ request_why_text self }
+    {
+        match self {
             RequestFlaw::TooLong => "the line is longer than 65536 bytes",
             RequestFlaw::NotJson => "this is not JSON (which may nest 127 levels deep)",
             RequestFlaw::NotObject => "this is not an object",
@@ -81,6 +82,17 @@ impl fmt::Display for RequestFlaw {
             RequestFlaw::NoSuchName => "the store has no invariant of this name",
             RequestFlaw::AlwaysHolds => "an invariant that always holds cannot be retired",
             RequestFlaw::NotRequest => "this is not a request",
-        })
+        }
+    }
+}
+
+impl fmt::Display for RequestFlaw {
+    ghost use Rattle.std.specs.Prelude.{Some};
+    ghost use Rattle.tmem_requests.specs.Refusals.{request_why_text};
+
+    ghost output = { λ why. Some (request_why_text why) };
+
+    fn fmt<W: fmt::Write>(&self, f: &mut fmt::Formatter<W>) -> fmt::Result {
+        f.write_str(self.text())
     }
 }

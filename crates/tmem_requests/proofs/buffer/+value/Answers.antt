@@ -64,3 +64,53 @@ value_in-returns-in-BeginObject-clause-value t c =
     let first : c.args.reader.now ≡ token_of c.in_ok-token.token ∷ c.next.new.self = grind arith in
     spelled_behind c.args.depth Token.begin_object c.args.reader.now c.next.new.self c.object_in.new.reader c.object_in.result c.object_in.ensures.value
     (first ∙ ap (λ k. token_of k ∷ c.next.new.self) c.in-BeginObject.is)
+
+pub array_in-returns-in_err-inner-clause-value : goal.array_in-returns-in_err-inner-clause-value
+array_in-returns-in_err-inner-clause-value t c = rw c.from_residual.ensures tt
+
+pub array_in-returns-in_err-inner-clause-shorter : goal.array_in-returns-in_err-inner-clause-shorter
+array_in-returns-in_err-inner-clause-shorter t c = rw c.from_residual.ensures tt
+
+pub array_in-returns-in_err-item-clause-value : goal.array_in-returns-in_err-item-clause-value
+array_in-returns-in_err-item-clause-value t c = rw c.from_residual-in_err-item.ensures tt
+
+pub array_in-returns-in_err-item-clause-shorter : goal.array_in-returns-in_err-item-clause-shorter
+array_in-returns-in_err-item-clause-shorter t c = rw c.from_residual-in_err-item.ensures tt
+
+pub array_in-returns-in_err-ok-clause-value : goal.array_in-returns-in_err-ok-clause-value
+array_in-returns-in_err-ok-clause-value t c = rw c.from_residual-in_err-ok.ensures tt
+
+pub array_in-returns-in_err-ok-clause-shorter : goal.array_in-returns-in_err-ok-clause-shorter
+array_in-returns-in_err-ok-clause-shorter t c = rw c.from_residual-in_err-ok.ensures tt
+
+pub object_in-returns-in_err-inner-clause-value : goal.object_in-returns-in_err-inner-clause-value
+object_in-returns-in_err-inner-clause-value t c = rw c.from_residual.ensures tt
+
+pub object_in-returns-in_err-inner-clause-shorter : goal.object_in-returns-in_err-inner-clause-shorter
+object_in-returns-in_err-inner-clause-shorter t c = rw c.from_residual.ensures tt
+
+pub object_in-returns-in_err-key-clause-value : goal.object_in-returns-in_err-key-clause-value
+object_in-returns-in_err-key-clause-value t c = rw c.from_residual-in_err-key.ensures tt
+
+pub object_in-returns-in_err-key-clause-shorter : goal.object_in-returns-in_err-key-clause-shorter
+object_in-returns-in_err-key-clause-shorter t c = rw c.from_residual-in_err-key.ensures tt
+
+pub object_in-returns-in_err-member-clause-value : goal.object_in-returns-in_err-member-clause-value
+object_in-returns-in_err-member-clause-value t c = rw c.from_residual-in_err-member.ensures tt
+
+pub object_in-returns-in_err-member-clause-shorter : goal.object_in-returns-in_err-member-clause-shorter
+object_in-returns-in_err-member-clause-shorter t c = rw c.from_residual-in_err-member.ensures tt
+
+pub object_in-returns-in_err-put_member-clause-value :
+    goal.object_in-returns-in_err-put_member-clause-value
+object_in-returns-in_err-put_member-clause-value t c = rw c.from_residual-in_err-put_member.ensures tt
+
+pub object_in-returns-in_err-put_member-clause-shorter :
+    goal.object_in-returns-in_err-put_member-clause-shorter
+object_in-returns-in_err-put_member-clause-shorter t c = rw c.from_residual-in_err-put_member.ensures tt
+
+pub value_in-returns-in_err-token-clause-value : goal.value_in-returns-in_err-token-clause-value
+value_in-returns-in_err-token-clause-value t c = rw c.from_residual.ensures tt
+
+pub value_in-returns-in_err-token-clause-shorter : goal.value_in-returns-in_err-token-clause-shorter
+value_in-returns-in_err-token-clause-shorter t c = rw c.from_residual.ensures tt

@@ -6,7 +6,7 @@ use Rattle.tmem_requests.proofs.fits.are_named.Goals as goal
 
 pub returns-then-not-has_name : goal.returns-then-not-has_name
 returns-then-not-has_name c = (
-  λ no. absurd (cc),
+  λ no. absurd (false≢true no),
   λ all. absurd (false≢true (sym c.if-not-has_name.true ∙ c.has_name.ensures ∙ all_at (λ n. has_name c.args.names.now n ≡ true) c.args.all.now c.loop-name.name-index c.name-item.result c.loop-name-test.true c.name-item.is all)),
 )
 

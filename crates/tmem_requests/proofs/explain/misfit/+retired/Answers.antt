@@ -1,6 +1,7 @@
-use Rattle.std.proofs.Common.{◌≡◌, ◌∷◌, [], IfErr, map, codes, refl, sym, ap, ◌∙◌, subst}
+use Rattle.std.proofs.Common.{◌≡◌, ◌∷◌, [], IfErr, map, codes, refl, sym, ap, ◌∙◌, subst, arith, rules}
 use Rattle.serde_json.specs.Data.{Data, string}
 use Rattle.tmem_forms.specs.TxForms.{array_of, natural, tagged, tx_form}
+use Rattle.tmem_tree.specs.declared.tx.Tx.TheFolds as folds
 use Rattle.tmem_requests.specs.Wrong.{IsTrueOf, store}
 use Rattle.tmem_requests.proofs.Misfits.{form_of_or_else, form_of_retire, form_of_seq, form_of_when, form_there}
 use Rattle.tmem_requests.proofs.Wrongs.{handed}
@@ -73,3 +74,25 @@ find_retired_in-returns-in_err-inside t c = λ vars names.
     let there = form_there tx_form c.args.txs.now c.loop-i.i c.index-txs-i.result c.loop-i-test.true c.index-txs-i.is in
     handed (λ w. IsTrueOf scope held w) c.from_residual.result c.in_err-inside.field-0.0 c.from_residual.ensures.1
     (c.in_err-inside.ensures.told scope held (tx_form c.index-txs-i.result) there (c.find_retired.ensures vars names))
+
+pub find_retired-find_retired-requires : goal.find_retired-find_retired-requires
+find_retired-find_retired-requires t c = (search (rules, folds.the_lemmas), tt)
+
+pub find_retired-find_retired-requires-in-When : goal.find_retired-find_retired-requires-in-When
+find_retired-find_retired-requires-in-When t c = (search (rules, folds.the_lemmas), tt)
+
+pub find_retired-find_retired-requires-in-OrElse : goal.find_retired-find_retired-requires-in-OrElse
+find_retired-find_retired-requires-in-OrElse t c = (search (rules, folds.the_lemmas), tt)
+
+pub find_retired-find_retired-requires-in-OrElse-2 :
+    goal.find_retired-find_retired-requires-in-OrElse-2
+find_retired-find_retired-requires-in-OrElse-2 t c = (search (rules, folds.the_lemmas), tt)
+
+pub find_retired-find_retired_in-requires : goal.find_retired-find_retired_in-requires
+find_retired-find_retired_in-requires t c = (search (rules, folds.the_lemmas), tt)
+
+pub find_retired_in-find_retired-requires : goal.find_retired_in-find_retired-requires
+find_retired_in-find_retired-requires t c =
+    let item = c.index-txs-i.is in
+    let within = c.loop-i-test.true in
+    (grind (arith, folds.the_lemmas, item, within), tt)
