@@ -1,1 +1,2 @@
+mod Failed
 mod Placed
