@@ -1,2 +1,3 @@
 mod Amisses
 mod Limited
+mod Nodes
