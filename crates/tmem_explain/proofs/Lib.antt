@@ -1,2 +1,4 @@
 mod Amisses
 mod Limited
+mod Nodes
+mod Passed

@@ -1,7 +1,8 @@
-use Rattle.std.proofs.Common.{◌≡◌, ◌∷◌, [], IfErr, map, codes, refl, sym, ap, ◌∙◌, subst}
+use Rattle.std.proofs.Common.{◌≡◌, ◌∷◌, [], IfErr, map, codes, refl, sym, ap, ◌∙◌, subst, arith, rules}
 use Rattle.serde_json.specs.Data.{Data}
 use Rattle.tmem_fault.specs.declared.fault.Cause.{Cause}
 use Rattle.tmem_forms.specs.TxForms.{array_of, natural, tagged, tx_form}
+use Rattle.tmem_tree.specs.declared.tx.Tx.TheFolds as folds
 use Rattle.tmem_explain.specs.Flaws.{IsAmissIn, TellsCause}
 use Rattle.tmem_explain.proofs.Amisses.{form_of_or_else, form_of_when, form_there, handed}
 use Rattle.tmem_explain.proofs.plan.+plan.Goals as goal
@@ -91,3 +92,26 @@ pub find_in_plan-returns-in-None-checked_sub-clause-cause :
 find_in_plan-returns-in-None-checked_sub-clause-cause t c =
     let l = c.args.limit in
     subst (λ (k : Cause). TellsCause k l.vars l.total c.past.result.expected) c.in-Some.ensures.cause (c.past.ensures.cause l.total c.in-Some.ensures.total)
+
+pub find_below-find_in_plan-first-requires : goal.find_below-find_in_plan-first-requires
+find_below-find_in_plan-first-requires t c = (search (rules, folds.the_lemmas), tt)
+
+pub find_below-find_in_plan-second-requires : goal.find_below-find_in_plan-second-requires
+find_below-find_in_plan-second-requires t c = (search (rules, folds.the_lemmas), tt)
+
+pub find_below-find_in_plan-first-requires-in-OrElse :
+    goal.find_below-find_in_plan-first-requires-in-OrElse
+find_below-find_in_plan-first-requires-in-OrElse t c = (search (rules, folds.the_lemmas), tt)
+
+pub find_below-find_in_plan-second-requires-in-OrElse :
+    goal.find_below-find_in_plan-second-requires-in-OrElse
+find_below-find_in_plan-second-requires-in-OrElse t c = (search (rules, folds.the_lemmas), tt)
+
+pub find_below-find_in_row-found-requires : goal.find_below-find_in_row-found-requires
+find_below-find_in_row-found-requires t c = (search (rules, folds.the_lemmas), tt)
+
+pub find_in_row-find_in_plan-found-requires : goal.find_in_row-find_in_plan-found-requires
+find_in_row-find_in_plan-found-requires t c =
+    let item = c.index-txs-i.is in
+    let within = c.loop-i-test.true in
+    (grind (arith, folds.the_lemmas, item, within), tt)
