@@ -42,19 +42,19 @@ returns-in_err-always-clause-refused c =
     (λ none linear is. none linear.always is.always)
 
 pub returns-in_err-name-clause-ok : goal.returns-in_err-name-clause-ok
-returns-in_err-name-clause-ok c = no_value _ c.from_residual-in_err-name.result c.in_err-name.field-0.0 c.from_residual-in_err-name.ensures.1
+returns-in_err-name-clause-ok c = no_value _ _ c.from_residual-in_err-name.result c.from_residual-in_err-name.ensures.1
 
 pub returns-in_err-footprint-clause-ok : goal.returns-in_err-footprint-clause-ok
-returns-in_err-footprint-clause-ok c = no_value _ c.from_residual-in_err-footprint.result c.in_err-footprint.field-0.0 c.from_residual-in_err-footprint.ensures.1
+returns-in_err-footprint-clause-ok c = no_value _ _ c.from_residual-in_err-footprint.result c.from_residual-in_err-footprint.ensures.1
 
 pub returns-in_err-least-clause-ok : goal.returns-in_err-least-clause-ok
-returns-in_err-least-clause-ok c = no_value _ c.from_residual-in_err-least.result c.in_err-least.field-0.0 c.from_residual-in_err-least.ensures.1
+returns-in_err-least-clause-ok c = no_value _ _ c.from_residual-in_err-least.result c.from_residual-in_err-least.ensures.1
 
 pub returns-in_err-most-clause-ok : goal.returns-in_err-most-clause-ok
-returns-in_err-most-clause-ok c = no_value _ c.from_residual-in_err-most.result c.in_err-most.field-0.0 c.from_residual-in_err-most.ensures.1
+returns-in_err-most-clause-ok c = no_value _ _ c.from_residual-in_err-most.result c.from_residual-in_err-most.ensures.1
 
 pub returns-in_err-always-clause-ok : goal.returns-in_err-always-clause-ok
-returns-in_err-always-clause-ok c = no_value _ c.from_residual-in_err-always.result c.in_err-always.field-0.0 c.from_residual-in_err-always.ensures.1
+returns-in_err-always-clause-ok c = no_value _ _ c.from_residual-in_err-always.result c.from_residual-in_err-always.ensures.1
 
 pub new-requires-clause-footprint : goal.new-requires-clause-footprint
 new-requires-clause-footprint c = c.in_ok-footprint.ensures.ok.is_footprint

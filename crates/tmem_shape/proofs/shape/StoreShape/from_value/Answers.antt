@@ -54,13 +54,13 @@ returns-clause-ok c = record {
 }
 
 pub returns-in_err-vars-clause-ok : goal.returns-in_err-vars-clause-ok
-returns-in_err-vars-clause-ok c = no_value _ c.from_residual-in_err-vars.result c.in_err-vars.field-0.0 c.from_residual-in_err-vars.ensures.1
+returns-in_err-vars-clause-ok c = no_value _ _ c.from_residual-in_err-vars.result c.from_residual-in_err-vars.ensures.1
 
 pub returns-in_err-slots-clause-ok : goal.returns-in_err-slots-clause-ok
-returns-in_err-slots-clause-ok c = no_value _ c.from_residual-in_err-slots.result c.in_err-slots.field-0.0 c.from_residual-in_err-slots.ensures.1
+returns-in_err-slots-clause-ok c = no_value _ _ c.from_residual-in_err-slots.result c.from_residual-in_err-slots.ensures.1
 
 pub returns-in_err-invariants-clause-ok : goal.returns-in_err-invariants-clause-ok
-returns-in_err-invariants-clause-ok c = no_value _ c.from_residual-in_err-invariants.result c.in_err-invariants.field-0.0 c.from_residual-in_err-invariants.ensures.1
+returns-in_err-invariants-clause-ok c = no_value _ _ c.from_residual-in_err-invariants.result c.from_residual-in_err-invariants.ensures.1
 
 pub returns-in_err-names-clause-ok : goal.returns-in_err-names-clause-ok
-returns-in_err-names-clause-ok c = no_value _ c.from_residual-in_err-names.result c.in_err-names.field-0.0 c.from_residual-in_err-names.ensures.1
+returns-in_err-names-clause-ok c = no_value _ _ c.from_residual-in_err-names.result c.from_residual-in_err-names.ensures.1
