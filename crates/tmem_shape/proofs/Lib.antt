@@ -1,5 +1,6 @@
 mod First
 mod Kept
+mod Told
 pub mod Arrays
 pub mod Found
 pub mod Linears

@@ -6,7 +6,7 @@ use Rattle.tmem_forms.specs.TxForms.{natural}
 use Rattle.tmem_shape.specs.Shapes.{IsVariableNamed, IsVariableName, names_form}
 use Rattle.tmem_shape.proofs.Named.{Names, followed, followed-more, followed-none, no_names_at}
 use Rattle.tmem_shape.proofs.Objects.{Entries}
-use Rattle.tmem_shape.proofs.Refusals.{passed_on}
+use Rattle.tmem_shape.proofs.Refusals.{no_value, passed_on}
 use Rattle.tmem_shape.proofs.names.named_of.Goals as goal
 
 pub returns-in_err-var-clause-refused : goal.returns-in_err-var-clause-refused
@@ -43,3 +43,27 @@ pub returns-clause-ok : goal.returns-clause-ok
 returns-clause-ok c =
     let ns = c.loop-key.names.items in
     c.loop-key.invariant.read ∙ ap (λ (es : Entries). followed ns (members_view es)) c.in-None.ensures.steps.0 ∙ followed-none ns
+
+pub returns-in_err-names-clause-ok : goal.returns-in_err-names-clause-ok
+returns-in_err-names-clause-ok c = no_value _ _ c.from_residual.result c.from_residual.ensures.1
+
+pub returns-in_err-names-clause-named : goal.returns-in_err-names-clause-named
+returns-in_err-names-clause-named c = no_value _ _ c.from_residual.result c.from_residual.ensures.1
+
+pub returns-in_err-var-clause-ok : goal.returns-in_err-var-clause-ok
+returns-in_err-var-clause-ok c = no_value _ _ c.from_residual-in_err-var.result c.from_residual-in_err-var.ensures.1
+
+pub returns-in_err-var-clause-named : goal.returns-in_err-var-clause-named
+returns-in_err-var-clause-named c = no_value _ _ c.from_residual-in_err-var.result c.from_residual-in_err-var.ensures.1
+
+pub returns-in_err-clone-clause-ok : goal.returns-in_err-clone-clause-ok
+returns-in_err-clone-clause-ok c = no_value _ _ c.from_residual-in_err-clone.result c.from_residual-in_err-clone.ensures.1
+
+pub returns-in_err-clone-clause-named : goal.returns-in_err-clone-clause-named
+returns-in_err-clone-clause-named c = no_value _ _ c.from_residual-in_err-clone.result c.from_residual-in_err-clone.ensures.1
+
+pub returns-in_err-push-clause-ok : goal.returns-in_err-push-clause-ok
+returns-in_err-push-clause-ok c = no_value _ _ c.from_residual-in_err-push.result c.from_residual-in_err-push.ensures.1
+
+pub returns-in_err-push-clause-named : goal.returns-in_err-push-clause-named
+returns-in_err-push-clause-named c = no_value _ _ c.from_residual-in_err-push.result c.from_residual-in_err-push.ensures.1

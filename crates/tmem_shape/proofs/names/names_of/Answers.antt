@@ -4,6 +4,7 @@ use Rattle.serde_json.specs.View.{view, members_view}
 use Rattle.tmem_fault.specs.Distinct.{AreDistinct}
 use Rattle.tmem_shape.proofs.Named.{names_found, names_same}
 use Rattle.tmem_shape.proofs.Objects.{object_found}
+use Rattle.tmem_shape.proofs.Refusals.{no_value}
 use Rattle.tmem_shape.proofs.names.names_of.Goals as goal
 
 pub returns-in-Some-first_repeated-clause-refused :
@@ -22,3 +23,15 @@ returns-in-Some-first_repeated-clause-refused c = λ names has.
 
 pub index-requires : goal.index-requires
 index-requires c = grind (arith, common_steps)
+
+pub returns-in_err-members-clause-ok : goal.returns-in_err-members-clause-ok
+returns-in_err-members-clause-ok c = no_value _ _ c.from_residual.result c.from_residual.ensures.1
+
+pub returns-in_err-names-clause-ok : goal.returns-in_err-names-clause-ok
+returns-in_err-names-clause-ok c = no_value _ _ c.from_residual-in_err-names.result c.from_residual-in_err-names.ensures.1
+
+pub returns-in_err-variables-clause-ok : goal.returns-in_err-variables-clause-ok
+returns-in_err-variables-clause-ok c = no_value _ _ c.from_residual-in_err-variables.result c.from_residual-in_err-variables.ensures.1
+
+pub returns-in_err-name-clause-ok : goal.returns-in_err-name-clause-ok
+returns-in_err-name-clause-ok c = no_value _ _ c.from_residual-in_err-name.result c.from_residual-in_err-name.ensures.1

@@ -6,7 +6,7 @@ use Rattle.tmem_forms.specs.TxForms.{array_of}
 use Rattle.tmem_tables.specs.declared.weight.Weight.{Weight}
 use Rattle.tmem_shape.specs.Shapes.{AreTerms, HasSum, terms_form}
 use Rattle.tmem_shape.proofs.Arrays.{array_found}
-use Rattle.tmem_shape.proofs.Refusals.{passed_on}
+use Rattle.tmem_shape.proofs.Refusals.{no_value, passed_on}
 use Rattle.tmem_shape.proofs.SumTerms.{length-terms_form, sum_length, sum_terms, terms_same}
 use Rattle.tmem_shape.proofs.terms.sum_of.Goals as goal
 
@@ -63,3 +63,12 @@ returns-clause-ok c =
         distinct = subst AreDistinct c.deref-2.ensures.value c.in_default.ensures.distinct;
       };
     }
+
+pub returns-in_err-found-clause-ok : goal.returns-in_err-found-clause-ok
+returns-in_err-found-clause-ok c = no_value _ _ c.from_residual.result c.from_residual.ensures.1
+
+pub returns-in_err-items-clause-ok : goal.returns-in_err-items-clause-ok
+returns-in_err-items-clause-ok c = no_value _ _ c.from_residual-in_err-items.result c.from_residual-in_err-items.ensures.1
+
+pub returns-in_err-footprint-clause-ok : goal.returns-in_err-footprint-clause-ok
+returns-in_err-footprint-clause-ok c = no_value _ _ c.from_residual-in_err-footprint.result c.from_residual-in_err-footprint.ensures.1
