@@ -1,11 +1,10 @@
-use Rattle.std.proofs.Common.{◌+◌, ◌≤◌, ◌∙◌, inl, inr, refl, ap, arith}
+use Rattle.std.proofs.Common.{◌∙◌, inl, inr, refl, ap, arith}
 use Rattle.std.proofs.lemmas.Bool.{false≢true}
 use Rattle.std.proofs.lemmas.Result.{err_from_is_err_and, IfErr-weaker}
 use Rattle.tmem_fault.specs.declared.fault.Fault.{Fault}
 use Rattle.tmem_gate.specs.Calls.{failures_after}
 use Rattle.tmem_record.specs.Layout.{end_at}
 use Rattle.tmem_gate.proofs.Laws.{WritesWithin-refl, WritesWithin-wider, WritesWithin-trans}
-use Rattle.tmem_journal.specs.Calls.{FitsOn}
 use Rattle.tmem_journal.proofs.Building.{still_zeros, same_rest}
 use Rattle.tmem_journal.proofs.Chained.{uses_after, device_is_not_geometry, geometry_is_not_there}
 use Rattle.tmem_journal.proofs.FormattedContent.{formatted_device, on_ok, on_ok_2}

@@ -1,4 +1,4 @@
-use Rattle.std.proofs.Common.{◌≡◌, ℕ, ◌+◌, ◌*◌, ◌<◌, ◌^◌, inl, inr, refl, sym, ◌∙◌, ap, subst, arith}
+use Rattle.std.proofs.Common.{◌≡◌, ◌+◌, ◌*◌, ◌<◌, ◌^◌, inl, inr, refl, sym, ◌∙◌, ap, subst, arith}
 use Rattle.tmem_disk.specs.Disk.{LeavesOnly}
 use Rattle.tmem_disk.proofs.Laws.{LeavesOnly-more}
 use Rattle.tmem_gate.proofs.Laws.{WritesWithin-refl}
@@ -8,7 +8,7 @@ use Rattle.tmem_image.specs.Image.{IsGeneration, other_copy}
 use Rattle.tmem_image.specs.Pages.{pages_at}
 use Rattle.tmem_image.proofs.Laws.{HoldsOthers-all}
 use Rattle.tmem_redolog.specs.declared.log.Log.{Log}
-use Rattle.tmem_journal.specs.Contents.{Position, position_at, position_in, migrated, ContentRepresents}
+use Rattle.tmem_journal.specs.Contents.{position_at, position_in, migrated, ContentRepresents}
 use Rattle.tmem_journal.proofs.Chained.{device_failed}
 use Rattle.tmem_journal.proofs.Logged.{other_one}
 use Rattle.tmem_journal.proofs.Migrated.{no_call, any_position, not_both, not_spent}

@@ -1,5 +1,5 @@
 use Rattle.std.proofs.lemmas.Grind.{common_steps}
-use Rattle.std.proofs.Common.{ℕ, ℤ, ◌≡◌, ◌≤◌, ◌<◌, inl, true, false, List, length, arith, refl, sym, ◌∙◌, ap, subst}
+use Rattle.std.proofs.Common.{ℕ, ℤ, ◌≤◌, ◌<◌, inl, true, false, List, length, arith, refl, sym, ◌∙◌, ap, subst}
 use Rattle.std.specs.Prelude.{All}
 use Rattle.std.proofs.lemmas.Bool.{true≢false}
 use Rattle.tmem_disk.specs.Disk.{LeavesOnly}
@@ -30,6 +30,16 @@ pub pages_changed-pages-requires : goal.pages_changed-pages-requires
 pages_changed-pages-requires g c =
     subst (λ (es : List Effect). All (λ (e : Effect). All (λ (w : ℕ × ℤ). w.0 < 1024) e.writes) es) (sym c.effects-effects.ensures.effects)
     (λ i d below j e less. omega (arith, c.requires.variables i d below j e less, c.args.self.now.layout.fits.vars_fit))
+
+pub commit_all-requires : goal.commit_all-requires
+commit_all-requires g c =
+    let j = c.args.self.now in
+    let same = sym c.effects-effects.ensures.effects in
+    record {
+      variables = subst (λ (es : List Effect). All (λ (e : Effect). All (λ (w : ℕ × ℤ). w.0 < length j.state.values) e.writes) es) same
+          (subst (λ (n : ℕ). All (λ (e : Effect). All (λ (w : ℕ × ℤ). w.0 < n) e.writes) c.args.batch.now) (sym j.sized) c.requires.variables);
+      within = subst (λ (es : List Effect). StaysWithin j.state es) same c.requires.within;
+    }
 
 pub returns-then-self : goal.returns-then-self
 returns-then-self g c =
