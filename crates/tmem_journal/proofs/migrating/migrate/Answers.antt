@@ -107,25 +107,55 @@ returns-in-Ok g c =
       few = omega (arith, ap (λ (l : Log). l.used) emptied);
     }
 
-pub returns-in-Err : goal.returns-in-Err
-returns-in-Err g c =
+pub returns-in-Err-clause-uses : goal.returns-in-Err-clause-uses
+returns-in-Err-clause-uses g c =
     let it = c.in-Err.ensures in
-    record {
-      uses = record { capacity = it.uses.capacity; model = it.uses.model; failures = device_failed _ _ _ it.errors it.uses.failures };
-      version = tt;
-      state = tt;
-      position = tt;
-      refused = inl refl;
-      spent = λ is. absurd (not_spent is);
-      current = λ is. absurd (not_both (sym c.in-One.is ∙ is));
-      elsewhere = it.elsewhere;
-      beside = it.beside;
-      any_moment = it.any_moment;
-      stands = it.stands;
-      synced = tt;
-      sure = tt;
-      closed = tt;
-      one = tt;
-      number = tt;
-      few = tt;
-    }
+    record { capacity = it.uses.capacity; model = it.uses.model; failures = device_failed _ _ _ it.errors it.uses.failures }
+
+pub returns-in-Err-clause-version : goal.returns-in-Err-clause-version
+returns-in-Err-clause-version g c = tt
+
+pub returns-in-Err-clause-state : goal.returns-in-Err-clause-state
+returns-in-Err-clause-state g c = tt
+
+pub returns-in-Err-clause-position : goal.returns-in-Err-clause-position
+returns-in-Err-clause-position g c = tt
+
+pub returns-in-Err-clause-refused : goal.returns-in-Err-clause-refused
+returns-in-Err-clause-refused g c = inl refl
+
+pub returns-in-Err-clause-spent : goal.returns-in-Err-clause-spent
+returns-in-Err-clause-spent g c = λ is. absurd (not_spent is)
+
+pub returns-in-Err-clause-current : goal.returns-in-Err-clause-current
+returns-in-Err-clause-current g c = λ is. absurd (not_both (sym c.in-One.is ∙ is))
+
+pub returns-in-Err-clause-elsewhere : goal.returns-in-Err-clause-elsewhere
+returns-in-Err-clause-elsewhere g c = c.renew.ensures.elsewhere
+
+pub returns-in-Err-clause-beside : goal.returns-in-Err-clause-beside
+returns-in-Err-clause-beside g c = c.renew.ensures.beside
+
+pub returns-in-Err-clause-any_moment : goal.returns-in-Err-clause-any_moment
+returns-in-Err-clause-any_moment g c = c.renew.ensures.any_moment
+
+pub returns-in-Err-clause-stands : goal.returns-in-Err-clause-stands
+returns-in-Err-clause-stands g c = c.renew.ensures.stands
+
+pub returns-in-Err-clause-synced : goal.returns-in-Err-clause-synced
+returns-in-Err-clause-synced g c = tt
+
+pub returns-in-Err-clause-sure : goal.returns-in-Err-clause-sure
+returns-in-Err-clause-sure g c = tt
+
+pub returns-in-Err-clause-closed : goal.returns-in-Err-clause-closed
+returns-in-Err-clause-closed g c = tt
+
+pub returns-in-Err-clause-one : goal.returns-in-Err-clause-one
+returns-in-Err-clause-one g c = tt
+
+pub returns-in-Err-clause-number : goal.returns-in-Err-clause-number
+returns-in-Err-clause-number g c = tt
+
+pub returns-in-Err-clause-few : goal.returns-in-Err-clause-few
+returns-in-Err-clause-few g c = tt

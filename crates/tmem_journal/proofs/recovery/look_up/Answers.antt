@@ -1,13 +1,12 @@
-use Rattle.std.proofs.Common.{ℕ, ◌≤◌, sym, ap, subst, ◌∙◌}
+use Rattle.std.proofs.Common.{ℕ, ◌≤◌, sym, ap, subst, ◌∙◌, rules}
 use Rattle.std.proofs.lemmas.Bool.{false≢true}
 use Rattle.std.proofs.lemmas.Result.{err_from_is_err_and}
 use Rattle.tmem_fault.specs.declared.fault.Fault.TheVariants.{Damaged}
-use Rattle.tmem_disk.proofs.Laws.{IsSynced-after}
 use Rattle.tmem_gate.specs.Calls.{failures_after}
 use Rattle.tmem_gate.proofs.Laws.{LooksOnly-trans}
 use Rattle.tmem_record.specs.Layout.{end_at}
 use Rattle.tmem_state.specs.Versions.{version_number}
-use Rattle.tmem_journal.proofs.Recovering.{no_choice, image_missing, block_later, log_missing, all_found, looking_four, looking}
+use Rattle.tmem_journal.proofs.Recovering.{no_choice, image_missing, block_later, log_missing, all_found, looking_four, looking, synced_since}
 use Rattle.tmem_journal.proofs.Refused.{why_block, why_part, block_then}
 use Rattle.tmem_journal.proofs.recovery.look_up.Goals as goal
 
@@ -192,37 +191,55 @@ returns-in_err-log g c =
       sized = tt;
     })
 
-pub returns : goal.returns
-returns g c =
-    let vars = c.args.layout.vars in
-    let slots = c.args.layout.slots in
-    let image = c.in_ok-version.field-0 in
-    let log = c.in_ok-log.ensures in
+pub returns-clause-uses : goal.returns-clause-uses
+returns-clause-uses g c =
     let s1 = c.sync.ensures in
     let s2 = c.found_block.ensures in
     let s3 = c.choose.ensures in
     let s4 = c.load.ensures in
     let s5 = c.scan.ensures in
     record {
-      uses = record {
-        capacity = s5.uses.capacity ∙ s4.uses.capacity ∙ s3.uses.capacity ∙ s2.uses.capacity ∙ s1.uses.capacity;
-        model = λ k. s1.uses.model (s2.uses.model (s3.uses.model (s4.uses.model (s5.uses.model k))));
-        failures = log.uses.failures ∙ c.in_ok-version.ensures.uses.failures ∙ c.in_ok-copy.ensures.uses.failures ∙ c.in_ok-block.ensures.uses.failures ∙ c.in_ok-sync.ensures.uses.failures;
-      };
-      found = λ k.
-          let m4 = s5.uses.model k in
-          let m3 = s4.uses.model m4 in
-          let m2 = s3.uses.model m3 in
-          ∣ all_found vars slots c.in_ok-copy.copy _ _ _ _ (s1.looks.seen (s2.uses.model m2)) (s2.looks.seen m2) (s3.looks.seen m3) image.version image.generation image.state _ (s4.looks.seen m4)
-          c.in_ok-block.block _ c.in_ok-log.log (c.may_follow.ensures.0 c.if-not-may_follow.false) c.in_ok-copy.ensures.one log.generation (c.in_ok-block.ensures.found m2) (c.in_ok-copy.ensures.found m3) (c.in_ok-version.ensures.found m4) (log.found k) ∣₁;
-      refused = tt;
-      looks = looking _ _ _ _ _ _ s2.uses.model s3.uses.model s4.uses.model s5.uses.model s1.looks s2.looks s3.looks s4.looks s5.looks;
-      synced =
-          let at = g.D.Disk.view c.sync.new.disk in
-          let now = g.D.Disk.view c.scan.new.disk in
-          let since = looking_four at _ _ _ now s3.uses.model s4.uses.model s5.uses.model s2.looks s3.looks s4.looks s5.looks in
-          IsSynced-after at now (λ k. s2.uses.model (s3.uses.model (s4.uses.model (s5.uses.model k)))) since.crash since.seen c.in_ok-sync.ensures.synced;
-      one = c.in_ok-copy.ensures.one;
-      number = rw log.generation c.in_ok-version.ensures.number;
-      sized = (log.sized, log.few);
+      capacity = s5.uses.capacity ∙ s4.uses.capacity ∙ s3.uses.capacity ∙ s2.uses.capacity ∙ s1.uses.capacity;
+      model = λ k. s1.uses.model (s2.uses.model (s3.uses.model (s4.uses.model (s5.uses.model k))));
+      failures = c.in_ok-log.ensures.uses.failures ∙ c.in_ok-version.ensures.uses.failures ∙ c.in_ok-copy.ensures.uses.failures ∙ c.in_ok-block.ensures.uses.failures ∙ c.in_ok-sync.ensures.uses.failures;
     }
+
+pub returns-clause-found : goal.returns-clause-found
+returns-clause-found g c = λ k.
+    let vars = c.args.layout.vars in
+    let slots = c.args.layout.slots in
+    let image = c.in_ok-version.field-0 in
+    let log = c.in_ok-log.ensures in
+    let m4 = c.scan.ensures.uses.model k in
+    let m3 = c.load.ensures.uses.model m4 in
+    let m2 = c.choose.ensures.uses.model m3 in
+    let m1 = c.found_block.ensures.uses.model m2 in
+    ∣ all_found vars slots c.in_ok-copy.copy _ _ _ _ (c.sync.ensures.looks.seen m1) (c.found_block.ensures.looks.seen m2) (c.choose.ensures.looks.seen m3) image.version image.generation image.state _ (c.load.ensures.looks.seen m4)
+    c.in_ok-block.block _ c.in_ok-log.log (c.may_follow.ensures.0 c.if-not-may_follow.false) c.in_ok-copy.ensures.one log.generation (c.in_ok-block.ensures.found m2) (c.in_ok-copy.ensures.found m3) (c.in_ok-version.ensures.found m4) (log.found k) ∣₁
+
+pub returns-clause-refused : goal.returns-clause-refused
+returns-clause-refused g c = tt
+
+pub returns-clause-looks : goal.returns-clause-looks
+returns-clause-looks g c =
+    looking _ _ _ _ _ _ c.found_block.ensures.uses.model c.choose.ensures.uses.model c.load.ensures.uses.model c.scan.ensures.uses.model
+    c.sync.ensures.looks c.found_block.ensures.looks c.choose.ensures.looks c.load.ensures.looks c.scan.ensures.looks
+
+-- each call behind the sync only looks
+pub returns-clause-synced : goal.returns-clause-synced
+returns-clause-synced g c =
+    let now = g.D.Disk.view c.scan.new.disk in
+    let s2 = c.found_block.ensures in
+    let s3 = c.choose.ensures in
+    let s4 = c.load.ensures in
+    let s5 = c.scan.ensures in
+    synced_since _ _ _ _ now s2.uses.model s3.uses.model s4.uses.model s5.uses.model s2.looks s3.looks s4.looks s5.looks (search rules)
+
+pub returns-clause-one : goal.returns-clause-one
+returns-clause-one g c = c.in_ok-copy.ensures.one
+
+pub returns-clause-number : goal.returns-clause-number
+returns-clause-number g c = rw c.in_ok-log.ensures.generation c.in_ok-version.ensures.number
+
+pub returns-clause-sized : goal.returns-clause-sized
+returns-clause-sized g c = (c.in_ok-log.ensures.sized, c.in_ok-log.ensures.few)

@@ -1,5 +1,5 @@
 use Rattle.std.proofs.lemmas.Grind.{common_steps}
-use Rattle.std.proofs.Common.{ℕ, ℤ, ◌≤◌, ◌<◌, inl, true, false, List, length, arith, refl, sym, ◌∙◌, ap, subst}
+use Rattle.std.proofs.Common.{ℕ, ℤ, ◌≤◌, ◌<◌, inl, List, length, arith, refl, sym, ◌∙◌, ap, subst}
 use Rattle.std.specs.Prelude.{All}
 use Rattle.std.proofs.lemmas.Bool.{true≢false}
 use Rattle.tmem_disk.specs.Disk.{LeavesOnly}
@@ -110,7 +110,7 @@ returns-in-Ok g c =
       layout = refl;
       flushed = (
         record { running = c.if-self.false; left = omega (arith, c.if-self-2.false, j.few) },
-        c.count.ensures ∙ ap (λ (s : State). s.count) is,
+        cc (ap (λ (s : State). s.count) is),
         record {
           state = is;
           doubtful = ap (fold c.commit_all.new.state) (j.certain c.if-self.false) ∙ is;
