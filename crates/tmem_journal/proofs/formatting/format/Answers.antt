@@ -1,4 +1,4 @@
-use Rattle.std.proofs.Common.{◌∙◌, inl, inr, refl, ap, arith}
+use Rattle.std.proofs.Common.{◌∙◌, inl, inr, refl, ap, arith, rules}
 use Rattle.std.proofs.lemmas.Bool.{false≢true}
 use Rattle.std.proofs.lemmas.Result.{err_from_is_err_and, IfErr-weaker}
 use Rattle.tmem_fault.specs.declared.fault.Fault.{Fault}
@@ -68,13 +68,11 @@ returns-in_err-erase g c =
     })
 
 pub build-requires : goal.build-requires
-build-requires g c =
-    let it = c.in_ok-erase.ensures in
-    record {
-      room = omega (arith, it.uses.capacity, c.size.ensures, c.end-end.ensures, c.if-size-end.false);
-      zeros = λ k. still_zeros c.end-end.result _ _ _ c.end-end.ensures (it.zeros k);
-      synced = it.synced;
-    }
+build-requires g c = record {
+  room = search rules;
+  zeros = λ k. still_zeros c.end-end.result _ (g.D.Disk.view c.args.disk.now).seen _ c.end-end.ensures (search rules);
+  synced = search rules;
+}
 
 pub returns : goal.returns
 returns g c =

@@ -72,7 +72,7 @@ renew-requires g c =
     record {
       room = c.requires.room;
       one = c.requires.one;
-      number = omega (arith, c.requires.number.fits, c.if-found-eq18446744073709551615.false);
+      number = omega (arith, c.requires.number.fits);
       sized = c.requires.sized.0;
       synced = c.requires.synced;
       stands = c.requires.stands;
@@ -128,7 +128,7 @@ pub returns-in-Err-clause-spent : goal.returns-in-Err-clause-spent
 returns-in-Err-clause-spent g c = λ is. absurd (not_spent is)
 
 pub returns-in-Err-clause-current : goal.returns-in-Err-clause-current
-returns-in-Err-clause-current g c = λ is. absurd (not_both (sym c.in-One.is ∙ is))
+returns-in-Err-clause-current g c = λ is. absurd (not_both (cc))
 
 pub returns-in-Err-clause-elsewhere : goal.returns-in-Err-clause-elsewhere
 returns-in-Err-clause-elsewhere g c = c.renew.ensures.elsewhere

@@ -48,11 +48,11 @@ returns-then-self g c =
 pub renew-requires : goal.renew-requires
 renew-requires g c =
     let j = c.args.self.now in
-    let running : j.is_closed ≡ false = sym c.is_closed.ensures ∙ c.if-is_closed.false in
+    let running : j.is_closed ≡ false = cc in
     record {
       room = j.room;
       one = j.one;
-      number = omega (arith, j.number.fits, c.if-self.false);
+      number = omega (arith, j.number.fits);
       sized = j.sized;
       synced = j.synced running;
       stands = j.sure running;

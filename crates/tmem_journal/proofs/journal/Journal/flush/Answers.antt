@@ -109,7 +109,7 @@ returns-in-Ok g c =
       uses = record { capacity = it.uses.capacity; model = it.uses.model; failures = it.uses.failures };
       layout = refl;
       flushed = (
-        record { running = c.if-self.false; left = omega (arith, c.if-self-2.false, j.few) },
+        record { running = c.if-self.false; left = omega (arith, j.few) },
         cc (ap (λ (s : State). s.count) is),
         record {
           state = is;
