@@ -28,6 +28,16 @@ sure_either {p = p} t sure = record { each = λ k c left. ∥∥₁_map (sure.ea
 pub full_is_not : (f : Fault) (used slots : ℕ) → (used ≡ slots → ⊥) → IsErrOf {T = Unit {0}} (Err f) LogFull ↔ (used ≡ slots) → f ≡ LogFull → ⊥
 full_is_not f used slots other full is = other (full.0 (ap (λ (e : Fault). Err e) is))
 
+-- an append is refused by one of three
+abbrev pub IsOneOfThree : Fault → Type 0
+IsOneOfThree LogFull = Unit {0}
+IsOneOfThree Device = Unit {0}
+IsOneOfThree Unknown = Unit {0}
+IsOneOfThree _ = ⊥
+
+pub one_of_three : (f : Fault) → IsAppendFault f → IsOneOfThree f
+one_of_three f which = ⊎_elim (λ full. subst IsOneOfThree (sym full) tt) (λ failed. ⊎_elim (λ device. subst IsOneOfThree (sym device) tt) (λ unknown. subst IsOneOfThree (sym unknown) tt) failed) which
+
 -- a batch that goes into the first slot behind the log, where every crash left this state before
 module _ (old new : DeviceView) (p : BatchPlaced) (copy : ℕ) (s : State) (count : s.count ≡ p.first) (within : StaysWithin s p.batch)
     (model : new.keeps_model → old.keeps_model) (sure : LeavesOnly old (ContentRepresents p.vars p.slots (before_slot copy p) s)) where
@@ -57,7 +67,7 @@ module _ (old new : DeviceView) (p : BatchPlaced) (copy : ℕ) (s : State) (coun
   sure_err t LogFull which other is left = absurd (other refl)
   sure_err t Device which other is left = record { each = λ k c may. ∥∥₁_map (without (model k) c (left.each k c may)) (λ held. (here, inl held)) }
   sure_err t Unknown which other is left = record { each = λ k c may. either (model k) t is c (left.each k c may) }
-  sure_err t _ which other is left = absurd (⊎_elim (λ a. cc) (λ b. ⊎_elim (λ x. cc) (λ y. cc) b) which)
+  sure_err t f which other is left = absurd (one_of_three f which)
 
   -- each image that a crash leaves then is of version 2
   pub current_err : (f : Fault) → IsAppendFault f → (f ≡ LogFull → ⊥) → LeavesOnly new (Becomes (WithoutBatch p) (WithBatch p) old (call_outcome (Err f))) → LeavesOnly new (IsCurrent p.vars p.slots)
@@ -68,7 +78,7 @@ module _ (old new : DeviceView) (p : BatchPlaced) (copy : ℕ) (s : State) (coun
         let from = left.each k c may in
         ⊎_elim (λ no. current_at (without (model k) c (from.0, from.1, no)) refl) (λ yes. current_at (with (model k) c (from.0, from.1, yes)) refl) from.2;
   }
-  current_err _ which other left = absurd (⊎_elim (λ a. cc) (λ b. ⊎_elim (λ x. cc) (λ y. cc) b) which)
+  current_err f which other left = absurd (one_of_three f which)
 
   -- while it is made durable
   pub moments_ok : (t t' t'' : State) → t ≡ fold s p.batch → AtEachMoment old new (MadeBy (Either (WithoutBatch p) (WithBatch p)) old) → AtEachMoment old new (λ c. ∥ ContentRepresentsEither p.vars p.slots s t' c ⊎ ContentRepresentsEither p.vars p.slots t t'' c ∥₁)
@@ -84,7 +94,7 @@ module _ (old new : DeviceView) (p : BatchPlaced) (copy : ℕ) (s : State) (coun
   moments_err t t' LogFull which other is during = absurd (other refl)
   moments_err t t' Device which other is during = record { each = λ k c left. ∣ inr (∥∥₁_map (without (model k) c (during.each k c left)) (λ held. (here, inl held))) ∣₁ }
   moments_err t t' Unknown which other is during = record { each = λ k c left. ∣ inr (either (model k) t is c (during.each k c left)) ∣₁ }
-  moments_err t t' _ which other is during = absurd (⊎_elim (λ a. cc) (λ b. ⊎_elim (λ x. cc) (λ y. cc) b) which)
+  moments_err t t' f which other is during = absurd (one_of_three f which)
 
 -- where every crash left one of two states, and a content represents a state, it is one of them
 module _ (vars slots : ℕ) (few : vars ≤ 2 ^ 16) where

@@ -204,8 +204,11 @@ pub on_ok_2 : {T E A B C : Type 0} → (A → B → C) → (r : Result T E) → 
 on_ok_2 f (Ok x) a b = f a b
 on_ok_2 f (Err e) a b = tt
 
+-- a gate among zeros is closed
+pub zeros_closed : (e at : ℕ) (rest c : List ℕ) → at < e → c ≡ replicate e 0 ++ rest → IsClosed at c
+zeros_closed e at rest c below zeros = subst (λ (l : List ℕ). IsClosed at l) (sym zeros) (closed_at [] rest e at (omega arith) (omega (arith, below)))
+
 -- block 0 stays closed while the image is put
 pub block_closed : (e at n : ℕ) (rest zeroed with_image : List ℕ) → 1 ≤ e → 1 ≤ at → zeroed ≡ replicate e 0 ++ rest → SameOutside at n zeroed with_image → IsClosed 0 with_image
 block_closed e at n rest zeroed with_image some behind zeros same =
-    let closed = subst (λ (l : List ℕ). IsClosed 0 l) (sym zeros) (closed_at [] rest e 0 (omega arith) (omega arith)) in
-    closed_before at n 0 zeroed with_image same (omega (arith, behind)) closed
+    closed_before at n 0 zeroed with_image same (omega (arith, behind)) (zeros_closed e 0 rest zeroed (omega (arith, some)) zeros)

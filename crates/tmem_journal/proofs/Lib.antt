@@ -1,10 +1,13 @@
+pub mod Answered
 pub mod Building
+pub mod Chained
 pub mod Finding
 pub mod Flushed
 pub mod FormattedContent
 pub mod Lengths
 pub mod Logged
 pub mod Migrated
+pub mod Opened
 pub mod Overwriting
 pub mod Recovering
 pub mod Recovers

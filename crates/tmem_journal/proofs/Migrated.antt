@@ -10,6 +10,7 @@ use Rattle.tmem_gate.specs.Calls.{WritesWithin}
 use Rattle.tmem_gate.proofs.Laws.{WritesWithin-trans}
 use Rattle.tmem_record.specs.Layout.{image_at, image_size, slot_at}
 use Rattle.tmem_effect.specs.State.{State}
+use Rattle.tmem_state.specs.declared.version.Version.TheVariants.{One, Two}
 use Rattle.tmem_redolog.proofs.Laws.{looks_given}
 use Rattle.tmem_journal.specs.Mended.{MendsDevice, RecoveredBy, RecoversDevice}
 use Rattle.tmem_journal.specs.Refusals.{IsRefusedBy, IsWhyFound}
@@ -77,6 +78,14 @@ if_ok_2 A B C f (Err e) a b = tt
 pub if_err : {T E : Type 0} (A B : E → Type 0) → ((e : E) → A e → B e) → (r : Result T E) → IfErr r A → IfErr r B
 if_err A B f (Ok x) a = tt
 if_err A B f (Err e) a = f e a
+
+-- an image is of one version
+pub not_both : One ≡ Two → ⊥
+not_both e = cc
+
+-- what failed is not spent
+pub not_spent : Device ≡ Spent → ⊥
+not_spent e = cc
 
 -- why a state that was found was not migrated
 pub not_migrated : (vars slots : ℕ) (K : Type 0) (p : Position) (s : State) (c : List ℕ) (f : Fault) → (K → ContentRepresents vars slots p s c) → (f ≡ Device) ⊎ ((f ≡ Spent) × IsSpentAt p) → IsWhyFound (λ g. K → IsRefusedBy vars slots c g) f

@@ -1,6 +1,7 @@
 -- The parts of a content that were found, put together.
 use Rattle.std.proofs.Common.{◌≡◌, ◌≤◌, ℕ, List, sym, ◌∙◌, subst}
 use Rattle.tmem_disk.specs.Disk.{DeviceView, LeavesOnly, IsSynced}
+use Rattle.tmem_disk.proofs.Laws.{IsSynced-after}
 use Rattle.tmem_gate.specs.Calls.{LooksOnly}
 use Rattle.tmem_gate.specs.Gate.{IsOpenOver}
 use Rattle.tmem_gate.proofs.Laws.{LooksOnly-trans}
@@ -88,6 +89,13 @@ looking_four a b c d e m1 m2 m3 l1 l2 l3 l4 = LooksOnly-trans a d e m3 (LooksOnl
 pub looking : (a b c d e f : DeviceView) → (c.keeps_model → b.keeps_model) → (d.keeps_model → c.keeps_model) → (e.keeps_model → d.keeps_model) → (f.keeps_model → e.keeps_model)
     → LooksOnly a b → LooksOnly b c → LooksOnly c d → LooksOnly d e → LooksOnly e f → LooksOnly a f
 looking a b c d e f m1 m2 m3 m4 l1 l2 l3 l4 l5 = LooksOnly-trans a e f m4 (looking_four a b c d e m1 m2 m3 l1 l2 l3 l4) l5
+
+-- four calls that only look, of a synced device
+pub synced_since : (a b c d e : DeviceView) → (b.keeps_model → a.keeps_model) → (c.keeps_model → b.keeps_model) → (d.keeps_model → c.keeps_model) → (e.keeps_model → d.keeps_model)
+    → LooksOnly a b → LooksOnly b c → LooksOnly c d → LooksOnly d e → IsSynced a → IsSynced e
+synced_since a b c d e m1 m2 m3 m4 l1 l2 l3 l4 synced =
+    let since = looking_four a b c d e m2 m3 m4 l1 l2 l3 l4 in
+    IsSynced-after a e (λ k. m1 (m2 (m3 (m4 k)))) since.crash since.seen synced
 
 -- the parts as a reader met them one after another, of one content
 module _ (vars slots copy : ℕ) (seen s1 s2 s3 : List ℕ) (is1 : s1 ≡ seen) (is2 : s2 ≡ s1) (is3 : s3 ≡ s2) where

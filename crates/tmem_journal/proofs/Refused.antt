@@ -1,13 +1,13 @@
 -- Which refusal a content has.
 use Rattle.std.proofs.Common.{◌≡◌, ◌≢◌, ◌<◌, ◌≤◌, ◌+◌, ◌^◌, ℕ, List, ◌∷◌, ◌++◌, length, take, drop, replicate, codes, refl, sym, ◌∙◌, ap, subst, arith}
-use Rattle.std.specs.Prelude.{slice_index_or, slice_range, Result, Ok, Err, IfErr}
+use Rattle.std.specs.Prelude.{slice_index_or, slice_range, Result, Ok, Err, IfErr, MatchResult}
 use Rattle.std.proofs.lemmas.List.{take-append-drop}
 use Rattle.std.proofs.Math.Logic.{∥∥₁_elim}
 use Rattle.std.proofs.Props.{props}
 use Rattle.byteorder.specs.Endian.{little_bytes, little_number}
 use Rattle.tmem_fault.specs.declared.fault.Fault.{Fault}
 use Rattle.tmem_fault.specs.declared.fault.Fault.TheVariants.{Device, NotFormatted, Damaged, Geometry, Spent}
-use Rattle.tmem_gate.specs.Calls.{IsWhyNone}
+use Rattle.tmem_gate.specs.Calls.{IsWhyNone, failures_after}
 use Rattle.tmem_gate.specs.Gate.{IsOpenAt, IsOpenOver}
 use Rattle.tmem_effect.specs.State.{State}
 use Rattle.tmem_effect.specs.Prefix.{IsPrefix}
@@ -116,6 +116,14 @@ module _ (K : Type 0) (vars slots : ℕ) (c bytes : List ℕ) (gate : K → IsOp
   pub why_read : {T : Type 0} (r : Result T Fault) → IfErr r (IsBlockFault vars slots bytes) → IfErr r (IsWhyRead (λ g. K → IsBlockBy vars slots c g))
   why_read (Ok x) is = tt
   why_read (Err f) is = why_fault f is
+
+-- no call fails where the bytes are refused
+pub block_failures : {T : Type 0} (vars slots : ℕ) (bytes : List ℕ) (n m : ℕ) (r : Result T Fault) → IfErr r (IsBlockFault vars slots bytes) → m ≡ n → MatchResult r (λ _. m ≡ n) (λ f. m ≡ failures_after f n)
+block_failures vars slots bytes n m (Ok x) refused same = same
+block_failures vars slots bytes n m (Err NotFormatted) refused same = same
+block_failures vars slots bytes n m (Err Damaged) refused same = same
+block_failures vars slots bytes n m (Err Geometry) refused same = same
+block_failures vars slots bytes n m (Err _) refused same = absurd refused
 
 -- a gate that is closed has no letters behind it
 pub no_letters : (c : List ℕ) → ¬ IsOpenAt 0 c → ¬ HasMagic c
