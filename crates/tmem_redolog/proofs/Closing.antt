@@ -2,17 +2,21 @@
 use Rattle.std.proofs.Common.{◌≡◌, ◌⊎◌, inl, inr, ⊎_elim, ℕ, ◌+◌, ◌<◌, ◌≤◌, Bool, true, false, List, length, refl, sym, ◌∙◌, ap, subst, arith}
 use Rattle.std.specs.Prelude.{slice_get, slice_range}
 use Rattle.std.proofs.lemmas.Bool.{cases_lt, cases_eq, false≢true}
-use Rattle.tmem_disk.specs.Disk.{DeviceView, IsDevice, LeavesOnly, AtEachMoment, Elapses, IsSynced, SameOutside}
+use Rattle.tmem_disk.specs.Disk.{DeviceView, IsDevice, ReadsAs, LeavesOnly, AtEachMoment, Elapses, IsSynced, SameOutside}
 use Rattle.tmem_disk.proofs.Laws.{SameOutside-refl, SameOutside-trans, SameOutside-wider, slice_get-before, slice_get-after, slice_range-before, slice_range-after, LeavesOnly-moment, LeavesOnly-synced, LeavesOnly-after, AtEachMoment-elapsed, AtEachMoment-trans, Elapses-more, Elapses-trans}
 use Rattle.tmem_gate.specs.Calls.{LooksOnly, WritesWithin, MadeBy}
 use Rattle.tmem_gate.specs.Gate.{IsOpenAt, IsClosed, IsOpenOver}
 use Rattle.tmem_gate.proofs.Laws.{gate_cases, closed_along, closed_before, no_time, by_look, LooksOnly-trans, WritesWithin-refl, WritesWithin-wider, WritesWithin-trans}
-use Rattle.tmem_record.specs.Layout.{slot_at}
+use Rattle.tmem_record.specs.Layout.{slot_at, end_at}
 use Rattle.tmem_record.specs.Spelling.{number_bytes}
 use Rattle.tmem_record.proofs.Laws.{length-number_bytes}
 use Rattle.tmem_redolog.specs.Log.{IsStale}
 use Rattle.tmem_redolog.specs.Closes.{bytes_from, IsNoOpenGate, Keeps, ReadClosed, Closes}
 use Rattle.tmem_redolog.proofs.Logs.{held_before}
+
+-- a gate lies within a device that has room for each slot
+pub gate_fits : (vars slots k at room fits : ℕ) → k < slots → at ≡ slot_at vars k → end_at vars slots ≤ room → fits ≡ room → at < fits
+gate_fits vars slots k at room fits more there has same = omega (arith, more, there, has, same)
 
 -- what is said under the premise alone
 pub looks_given : (old new : DeviceView) → (new.keeps_model → LooksOnly old new) → LooksOnly old new
@@ -189,6 +193,14 @@ pub record Closing (vars slots from to : ℕ) (old now : DeviceView) (any : Bool
 -- with each gate closed before, nothing is written so far
 pub idle_so_far : (vars slots from k : ℕ) (old now : DeviceView) (any : Bool) → k ≤ slots → Closing vars slots from k old now any → ReadClosed vars from slots old → now.keeps_model → LooksOnly old now
 idle_so_far vars slots from k old now any few closing shut keeps = closing.looks (closing.idle keeps (λ j above below. shut j above (omega (arith, below, few))))
+
+-- gates that read closed up to one do so up to an earlier one
+pub closed_up_to : (vars from to until : ℕ) (d : DeviceView) → until ≤ to → ReadClosed vars from to d → ReadClosed vars from until d
+closed_up_to vars from to until d before shut k above below = shut k above (omega (arith, before, below))
+
+-- and they do so after a call that writes nothing
+pub closed_still : (vars from to : ℕ) (d new : DeviceView) → d.keeps_model → ReadsAs new d.seen → (d.keeps_model → ReadClosed vars from to d) → new.keeps_model → ReadClosed vars from to new
+closed_still vars from to d new model seen shut keeps k above below = subst (λ (c : List ℕ). IsClosed (slot_at vars k) c) (sym (seen keeps)) (shut model k above below)
 
 -- one was open before, or this one was
 pub no_gate_open : (any closed now : Bool) → ((any ≡ true) × (now ≡ true)) ⊎ ((any ≡ false) × (now ≡ closed)) → now ≡ false → (any ≡ false) × (closed ≡ false)

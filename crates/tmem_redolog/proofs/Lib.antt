@@ -1,4 +1,5 @@
 pub mod Appended
+pub mod Calls
 pub mod Closing
 pub mod Laws
 pub mod Logs

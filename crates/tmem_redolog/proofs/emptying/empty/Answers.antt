@@ -1,4 +1,5 @@
-use Rattle.std.proofs.Common.{arith}
+use Rattle.std.proofs.Common.{arith, rules}
+use Rattle.tmem_redolog.proofs.Calls.{not_of_sync}
 use Rattle.tmem_redolog.proofs.emptying.empty.Goals as goal
 
 pub returns-in-Err-clause-closes : goal.returns-in-Err-clause-closes
@@ -54,3 +55,6 @@ returns-in-Err-clause-closed g c = λ _. tt
 
 pub returns-in-Err-clause-durable : goal.returns-in-Err-clause-durable
 returns-in-Err-clause-durable g c = λ _. tt
+
+pub returns-in-Err-clause-gate_failed : goal.returns-in-Err-clause-gate_failed
+returns-in-Err-clause-gate_failed g c = λ _. rw c.in-Err.ensures.call.last (not_of_sync c.in-Err.field-0 (search rules))

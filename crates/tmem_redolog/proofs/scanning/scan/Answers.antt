@@ -28,3 +28,26 @@ returns-clause-found g c = λ k.
     let is = is_log c.args.layout.vars c.args.layout.slots c.slot.result _ seen c.in_ok-log.log.items c.deref-bytes.result.now c.slot.ensures c.requires.room (c.in_ok-log.ensures.bytes k) c.deref-bytes.ensures.value in
     log_found c.args.version c.args.layout.vars c.args.layout.slots c.args.generation few fits c.args.state.now seen c.deref-bytes.result.now is c.in_ok-used.used c.replay.new.state c.in_ok-used.ensures.few c.in_ok-used.ensures.ends
     (c.in_ok-used.ensures.reached seen is) c.in_ok-used.ensures.within (c.are_stale.ensures.0 c.if-not-are_stale.false)
+
+pub returns-clause-few : goal.returns-clause-few
+returns-clause-few g c = c.in_ok-used.ensures.few
+
+pub returns-clause-sized : goal.returns-clause-sized
+returns-clause-sized g c = c.in_ok-used.ensures.sized
+
+pub returns-then-not-are_stale-clause-uses : goal.returns-then-not-are_stale-clause-uses
+returns-then-not-are_stale-clause-uses g c =
+    let read = c.read_piece.ensures.uses in
+    record { capacity = read.capacity; model = read.model; failures = c.in_ok-log.ensures.uses.failures }
+
+pub returns-in_err-used-clause-few : goal.returns-in_err-used-clause-few
+returns-in_err-used-clause-few g c = rw (err_from_is_err_and c.from_residual-in_err-used.result c.from_residual-in_err-used.ensures.1).1 tt
+
+pub returns-in_err-used-clause-generation : goal.returns-in_err-used-clause-generation
+returns-in_err-used-clause-generation g c = rw (err_from_is_err_and c.from_residual-in_err-used.result c.from_residual-in_err-used.ensures.1).1 tt
+
+pub returns-in_err-used-clause-sized : goal.returns-in_err-used-clause-sized
+returns-in_err-used-clause-sized g c = rw (err_from_is_err_and c.from_residual-in_err-used.result c.from_residual-in_err-used.ensures.1).1 tt
+
+pub returns-in_err-used-clause-found : goal.returns-in_err-used-clause-found
+returns-in_err-used-clause-found g c = rw (err_from_is_err_and c.from_residual-in_err-used.result c.from_residual-in_err-used.ensures.1).1 (λ _. tt)
