@@ -11,6 +11,14 @@ pub if_both : {X : Type 0} (o : Option X) {P Q : Type 0} → (P → Q) → IfSom
 if_both (Some x) then p = then p
 if_both None then p = tt
 
+-- what a test of a node says, from the call that answers it
+pub said : {a b v : Bool} → a ≡ b → a ≡ v → b ≡ v
+said is known = sym is ∙ known
+
+-- and what the node costs then
+pub costs : {a b v : Bool} → a ≡ b → a ≡ v → one_if b ≡ one_if v
+costs is known = ap one_if (said is known)
+
 -- a tree of one node
 pub record IsOneNode (tx : Tx) : Type 0 where
   pub levels : depth tx ≡ 1

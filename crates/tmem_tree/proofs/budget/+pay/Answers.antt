@@ -1,5 +1,6 @@
 use Rattle.std.proofs.lemmas.Grind.{common_steps}
 use Rattle.std.proofs.Common.{◌≡◌, ◌+◌, false, refl, sym, ap, ◌∙◌, arith}
+use Rattle.std.proofs.lemmas.Bool.{false≢true}
 use Rattle.std.proofs.lemmas.List.{drop_all}
 use Rattle.tmem_tree.specs.Limits.{one_if, count, is_node, is_write, is_check, is_retire, is_step}
 use Rattle.tmem_tree.specs.Shapes.{names_of}
@@ -7,14 +8,14 @@ use Rattle.tmem_tree.specs.Plans.{is_bad}
 use Rattle.tmem_tree.proofs.Laws.{depth_items, count_items}
 use Rattle.tmem_tree.proofs.Known.{count_items-drop_more}
 use Rattle.tmem_tree.proofs.Whole.{seq_all, depth_items-drop_more}
-use Rattle.tmem_tree.proofs.Good.{each_some, if_both, one_node, or_else_good, or_else_two, when_good, when_two}
+use Rattle.tmem_tree.proofs.Good.{said, each_some, if_both, one_node, or_else_good, or_else_two, when_good, when_two}
 use Rattle.tmem_tree.proofs.budget.+pay.Goals as goal
 
 pub loop-t-init : goal.loop-t-init
 loop-t-init g t c =
     let tx = c.args.tx.now in
     let bad = is_bad (g.S.StoredSteps.arities c.args.steps.now) c.args.vars (names_of c.args.shapes.now) in
-    let fine : bad tx ≡ false = sym c.has_bad_part.ensures ∙ c.if-has_bad_part.false in
+    let fine : bad tx ≡ false = said c.has_bad_part.ensures c.if-has_bad_part.false in
     let all = seq_all tx c.in-Seq.txs c.deref-t-items.result.now c.in-Seq.is c.deref-t-items.ensures.value in
     let left = c.in_ok-left.ensures in
     record {
@@ -183,14 +184,14 @@ returns-in_err-left-in-OrElse-clause-good g t c = rw c.from_residual-in_err-left
 pub returns-in_ok-left-in-When-clause-good : goal.returns-in_ok-left-in-When-clause-good
 returns-in_ok-left-in-When-clause-good g t c =
     let bad = is_bad (g.S.StoredSteps.arities c.args.steps.now) c.args.vars (names_of c.args.shapes.now) in
-    let fine : bad c.args.tx.now ≡ false = sym c.has_bad_part.ensures ∙ c.if-has_bad_part.false in
+    let fine : bad c.args.tx.now ≡ false = said c.has_bad_part.ensures c.if-has_bad_part.false in
     let first : count bad c.in-When.then.value ≡ 0 = rw c.deref.ensures at c.in_ok-left-in-When.ensures.good in
     if_both c.pay-in-When-2.result (λ second. when_good bad c.args.tx.now c.in-When.reg c.in-When.then c.in-When.other c.in-When.is fine first second) (rw c.deref-in-When.ensures at c.pay-in-When-2.ensures.good)
 
 pub returns-in_ok-left-in-OrElse-clause-good : goal.returns-in_ok-left-in-OrElse-clause-good
 returns-in_ok-left-in-OrElse-clause-good g t c =
     let bad = is_bad (g.S.StoredSteps.arities c.args.steps.now) c.args.vars (names_of c.args.shapes.now) in
-    let fine : bad c.args.tx.now ≡ false = sym c.has_bad_part.ensures ∙ c.if-has_bad_part.false in
+    let fine : bad c.args.tx.now ≡ false = said c.has_bad_part.ensures c.if-has_bad_part.false in
     let first : count bad c.in-OrElse.first.value ≡ 0 = rw c.deref-in-OrElse.ensures at c.in_ok-left-in-OrElse.ensures.good in
     if_both c.pay-in-OrElse-2.result (λ second. or_else_good bad c.args.tx.now c.in-OrElse.first c.in-OrElse.second c.in-OrElse.is fine first second) (rw c.deref-in-OrElse-2.ensures at c.pay-in-OrElse-2.ensures.good)
 
@@ -198,7 +199,7 @@ pub returns-in_default : goal.returns-in_default
 returns-in_default g t c =
     let tx = c.args.tx.now in
     let bad = is_bad (g.S.StoredSteps.arities c.args.steps.now) c.args.vars (names_of c.args.shapes.now) in
-    let fine : bad tx ≡ false = sym c.has_bad_part.ensures ∙ c.if-has_bad_part.false in
+    let fine : bad tx ≡ false = said c.has_bad_part.ensures c.if-has_bad_part.false in
     let one = one_node tx c.in_default.not-Seq c.in_default.not-When c.in_default.not-OrElse in
     let left = c.in_ok-left.ensures in
     record {
@@ -209,7 +210,7 @@ returns-in_default g t c =
       retires = omega (arith, one.counts is_retire, left.retires);
       steps = omega (arith, one.counts is_step, left.steps);
       good = one.counts bad ∙ ap one_if fine;
-      lacking = λ no. absurd cc;
+      lacking = λ no. absurd (false≢true (sym no));
     }
 
 pub returns-in_ok-left-in-When-clause-shallow : goal.returns-in_ok-left-in-When-clause-shallow

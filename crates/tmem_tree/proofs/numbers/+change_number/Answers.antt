@@ -1,5 +1,6 @@
 use Rattle.std.proofs.lemmas.Grind.{common_steps}
 use Rattle.std.proofs.Common.{◌≡◌, ◌∙◌, sym, ap, set, refl, length-set, to_z, of_z, w64, rules, arith}
+use Rattle.std.proofs.lemmas.Int.{to_z-of_z}
 use Rattle.std.proofs.lemmas.List.{drop_more, drop_all}
 use Rattle.tmem_tree.specs.declared.tx.Tx.TheViews.{the_lemmas}
 use Rattle.tmem_tree.specs.declared.tx.Tx.{Tx}
@@ -12,7 +13,7 @@ use Rattle.tmem_tree.proofs.numbers.+change_number.Goals as goal
 pub returns-in_err-left-in-Seq-clause-tree : goal.returns-in_err-left-in-Seq-clause-tree
 returns-in_err-left-in-Seq-clause-tree t c =
     let n = c.args.number in
-    let number : to_z w64 (of_z w64 n) ≡ n = search rules in
+    let number : to_z w64 (of_z w64 n) ≡ n = to_z-of_z w64 n c.ranges.number in
     let now = c.loop-t.t-items in
     let listed = c.deref_mut-t-items.ensures.value ∙ ap (λ v. v.items) c.in-Seq.txs-is in
     let turn =
@@ -29,7 +30,7 @@ returns-in_err-left-in-Seq-clause-found t c = λ none.
 pub returns-after-loop-t-clause-tree : goal.returns-after-loop-t-clause-tree
 returns-after-loop-t-clause-tree t c =
     let n = c.args.number in
-    let number : to_z w64 (of_z w64 n) ≡ n = search rules in
+    let number : to_z w64 (of_z w64 n) ≡ n = to_z-of_z w64 n c.ranges.number in
     let listed = c.deref_mut-t-items.ensures.value ∙ ap (λ v. v.items) c.in-Seq.txs-is in
     let turn = no_turn c.loop-t.left c.loop-t.t-index n _ c.loop-t.t-items (search rules) (rw number at c.loop-t.invariant.changed) in
     rw (with_number-Seq c.args.index n c.args.tx.now c.in-Seq.txs _ _ c.in-Seq.is listed c.loop-t.invariant.unvisited.0 turn) (search (rules, the_lemmas))
