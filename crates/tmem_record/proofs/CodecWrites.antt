@@ -2,7 +2,7 @@
 use Rattle.std.proofs.Common.{◌≡◌, ◌<◌, ◌≤◌, ◌+◌, ◌-◌, ◌*◌, ℕ, ℤ, pos, List, [], ◌∷◌, ◌++◌, length, take, drop, get_or, flat_map, sum_by, sym, ◌∙◌, ap, arith, append_assoc, length-append, refl}
 use Rattle.std.specs.Int.{w64, cast_unsigned}
 use Rattle.std.proofs.lemmas.List.{take_more, flat_map_more, drop-drop}
-use Rattle.std.proofs.lemmas.List.Sums.{sum_by-cons}
+use Rattle.std.proofs.lemmas.List.Sums.{sum_by-cons, sum_by_more_le}
 use Rattle.byteorder.specs.Endian.{little_bytes}
 use Rattle.tmem_effect.specs.declared.effect.Effect.{Effect}
 use Rattle.tmem_state.specs.Batch.{record_length_in, records_length_in}
@@ -40,6 +40,10 @@ pub name_put : (ns : List (List ℕ)) (i : ℕ) (d : List ℕ) → i < length ns
     → n ≡ length letters → letters ≡ get_or ns i d → b2 ≡ front ++ flat_map name_bytes (take (i + 1) ns)
 name_put ns i d below front b0 b1 b2 letters n before first second n_is is =
     part_more name_bytes ns i d below front b0 b2 (n ∷ letters) before (two_parts b0 b1 b2 (n ∷ []) letters first second) (name_is letters (get_or ns i d) n n_is is)
+
+-- and there is room for it
+pub name_room : (ns : List (List ℕ)) (i start at room : ℕ) (d : List ℕ) → i < length ns → at ≡ start + sum_by (λ n. 1 + length n) (take i ns) → start + sum_by (λ n. 1 + length n) ns ≤ room → at + (1 + length (get_or ns i d)) ≤ room
+name_room ns i start at room d below there has = omega (arith, sum_by_more_le (λ n. 1 + length n) ns i d below, there, has)
 
 -- a name alone
 pub name_alone : (b1 b2 letters name : List ℕ) (n : ℕ) → b1 ≡ n ∷ [] → b2 ≡ b1 ++ letters → n ≡ length letters → letters ≡ name → b2 ≡ name_bytes name
