@@ -33,21 +33,28 @@ closed_by at x c is other = record { not_open = λ open_now. other (same (sym is
     same : Some x ≡ Some 0xA5 → x ≡ 0xA5
     same e = cc
 
--- so one that 0 was written to is
-pub closed_by_zero : (at : ℕ) (c : List ℕ) → at + 1 ≤ length c → IsClosed at (overwritten c at (0 ∷ []))
-closed_by_zero at c fits =
-    let range : take (at + 1 - at) (drop at (overwritten c at (0 ∷ []))) ≡ 0 ∷ [] = slice_range-overwritten c at (0 ∷ []) fits in
+-- where one byte was written, it stands
+byte_written : (at x : ℕ) (c : List ℕ) → at + 1 ≤ length c → slice_get (overwritten c at (x ∷ [])) at ≡ Some x
+byte_written at x c fits =
+    let range : take (at + 1 - at) (drop at (overwritten c at (x ∷ []))) ≡ x ∷ [] = slice_range-overwritten c at (x ∷ []) fits in
     let one : at + 1 - at ≡ 1 = omega arith in
-    closed_by at 0 (overwritten c at (0 ∷ [])) (first_of at (overwritten c at (0 ∷ [])) (ap (λ (k : ℕ). take k (drop at (overwritten c at (0 ∷ [])))) (sym one) ∙ range)) (λ e. absurd (omega (arith, e)))
+    first_of at (overwritten c at (x ∷ [])) (ap (λ (k : ℕ). take k (drop at (overwritten c at (x ∷ [])))) (sym one) ∙ range)
   where
-    first_of : (i : ℕ) (xs : List ℕ) → take 1 (drop i xs) ≡ 0 ∷ [] → slice_get xs i ≡ Some 0
+    first_of : (i : ℕ) (xs : List ℕ) → take 1 (drop i xs) ≡ x ∷ [] → slice_get xs i ≡ Some x
     first_of zero [] is = cc
-    first_of zero (x ∷ xs) is = heads is
+    first_of zero (y ∷ xs) is = heads is
       where
-        heads : x ∷ [] ≡ 0 ∷ [] → Some x ≡ Some 0
+        heads : y ∷ [] ≡ x ∷ [] → Some y ≡ Some x
         heads e = cc
     first_of (suc i) [] is = cc
-    first_of (suc i) (x ∷ xs) is = first_of i xs is
+    first_of (suc i) (y ∷ xs) is = first_of i xs is
+
+-- so a gate that 0 was written to is closed, and one that 165 was written to is open
+pub closed_by_zero : (at : ℕ) (c : List ℕ) → at + 1 ≤ length c → IsClosed at (overwritten c at (0 ∷ []))
+closed_by_zero at c fits = closed_by at 0 (overwritten c at (0 ∷ [])) (byte_written at 0 c fits) (λ e. absurd (omega (arith, e)))
+
+pub open_by_gate : (at : ℕ) (c : List ℕ) → at + 1 ≤ length c → IsOpenAt at (overwritten c at (0xA5 ∷ []))
+open_by_gate at c fits = byte_written at 0xA5 c fits
 
 -- a closed gate stays so where its byte stays
 pub closed_along : {at : ℕ} {b c : List ℕ} → slice_get c at ≡ slice_get b at → IsClosed at b → IsClosed at c

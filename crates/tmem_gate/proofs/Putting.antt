@@ -1,11 +1,11 @@
 -- What a crash leaves of a cell while it is written.
-use Rattle.std.proofs.Common.{◌≡◌, inl, inr, ⊎_elim, ℕ, ◌+◌, ◌≤◌, List, [], ◌∷◌, ◌++◌, length, take, drop, sym, ◌∙◌, ap, subst, arith, append_assoc}
+use Rattle.std.proofs.Common.{◌≡◌, inl, inr, ⊎_elim, ℕ, ◌+◌, ◌<◌, ◌≤◌, List, [], ◌∷◌, ◌++◌, length, take, drop, sym, ◌∙◌, ap, subst, arith, append_assoc}
 use Rattle.std.specs.Prelude.{slice_range}
 use Rattle.std.proofs.lemmas.List.{take_at, drop_at, take-take, length-take-le}
 use Rattle.tmem_disk.specs.Disk.{DeviceView, IsDevice, overwritten, ReadsAs, LeavesOnly, AtEachMoment, Rewritten, IsSynced, SameOutside}
 use Rattle.tmem_disk.proofs.Laws.{SameOutside-trans, SameOutside-wider, slice_range-overwritten, LeavesOnly-moment}
-use Rattle.tmem_gate.specs.Gate.{IsClosed, HasBody, IsClosedOver, IsOpenOver}
-use Rattle.tmem_gate.proofs.Laws.{whole_after, WritesWithin-wider, WritesWithin-trans}
+use Rattle.tmem_gate.specs.Gate.{IsOpenAt, IsClosed, StandsClosed, HasBody, IsClosedOver, IsOpenOver, IsWhole}
+use Rattle.tmem_gate.proofs.Laws.{closed_before, body_behind, open_by_gate, whole_after, WritesWithin-wider, WritesWithin-trans}
 use Rattle.tmem_gate.specs.Calls.{MadeBy, WritesWithin}
 use Rattle.tmem_gate.specs.Cells.{LeftClosed, LeftOpen}
 use Rattle.tmem_gate.specs.Changes.{WasMade, NotMade, InDoubt, Either, Puts}
@@ -120,3 +120,35 @@ byte_in_front at x body old between new fits body_is byte_is =
     let offset : at + 1 + length body ≡ at + length (x ∷ body) = byte_and_body at x body in
     byte_is ∙ ap (λ (l : List ℕ). (l ++ x ∷ []) ++ drop (at + 1) between) front ∙ ap (λ (l : List ℕ). (take at old ++ x ∷ []) ++ l) behind
     ∙ sym (append_assoc (take at old ++ x ∷ []) body rest) ∙ ap (λ (l : List ℕ). l ++ rest) (append_assoc (take at old) (x ∷ []) body) ∙ ap (λ (k : ℕ). (take at old ++ x ∷ body) ++ drop k old) offset
+
+-- a body that is written behind a gate that stands closed
+module _ (old new : DeviceView) (at : ℕ) (bytes : List ℕ) (device : IsDevice old) (model : new.keeps_model → old.keeps_model) (closed : StandsClosed at old) (within : WritesWithin (at + 1) (length bytes) old new) where
+  still_shut : new.keeps_model → (c : List ℕ) → Rewritten (at + 1) (length bytes) old c → IsClosed at c
+  still_shut k c from = closed_before (at + 1) (length bytes) at from.0 c from.2 (omega arith) (closed.each (model k) from.0 from.1)
+
+  pub shut_meanwhile : AtEachMoment old new (IsClosed at)
+  shut_meanwhile = record { each = λ k c left. still_shut k c (within.any_moment.each k c left) }
+
+  pub body_stands : at + 1 + length bytes ≤ old.capacity → ReadsAs new (overwritten old.seen (at + 1) bytes) → IsSynced new → LeavesOnly new (IsClosedOver at bytes)
+  body_stands room reads synced = record {
+    each = λ k c left. record {
+      gate = still_shut k c (within.crash.each k c left);
+      body = subst (λ (l : List ℕ). HasBody at bytes l) (sym (synced k c left)) (body_written old new at bytes device model room reads k);
+    };
+  }
+
+-- a gate that is opened over a body
+module _ (old new : DeviceView) (at : ℕ) (device : IsDevice old) (model : new.keeps_model → old.keeps_model) (within : WritesWithin at 1 old new) (body : List ℕ) (has : LeavesOnly old (HasBody at body)) where
+  pub whole_meanwhile : AtEachMoment old new (IsWhole at body)
+  whole_meanwhile = record { each = λ k c left. let from = within.any_moment.each k c left in whole_after at body from.0 c (has.each (model k) from.0 from.1) from.2 }
+
+  pub open_stands : at < old.capacity → ReadsAs new (overwritten old.seen at (0xA5 ∷ [])) → IsSynced new → LeavesOnly new (IsOpenOver at body)
+  open_stands room reads synced = record {
+    each = λ k c left.
+        let from = within.crash.each k c left in
+        let fits : at + 1 ≤ length old.seen = omega (arith, room, device.seen_is_whole (model k)) in
+        record {
+          gate = subst (λ (l : List ℕ). IsOpenAt at l) (sym (synced k c left ∙ reads k)) (open_by_gate at old.seen fits);
+          body = body_behind at (length body) from.0 c from.2 ∙ has.each (model k) from.0 from.1;
+        };
+  }
