@@ -1,18 +1,18 @@
 -- What a crash leaves of the spare copy, while an image is written to it.
-use Rattle.std.proofs.Common.{◌≡◌, ◌⊎◌, inl, inr, ⊎_elim, ℕ, ℤ, ◌+◌, ◌-◌, ◌*◌, ◌≤◌, List, [], ◌∷◌, ◌++◌, length, take, drop, refl, sym, ◌∙◌, ap, subst, arith, append_assoc}
-use Rattle.std.specs.Prelude.{Result, Ok, Err, IfErr, slice_range}
+use Rattle.std.proofs.Common.{◌≡◌, ◌⊎◌, inl, inr, ⊎_elim, ℕ, ℤ, ◌+◌, ◌-◌, ◌*◌, ◌≤◌, ◌<◌, List, [], ◌∷◌, ◌++◌, length, take, drop, refl, sym, ◌∙◌, ap, subst, arith, append_assoc}
+use Rattle.std.specs.Prelude.{Result, Ok, Err, IfErr, MatchResult, slice_range}
 use Rattle.tmem_disk.specs.Disk.{DeviceView, IsDevice, LeavesOnly, Elapses, Rewritten, SameOutside}
 use Rattle.tmem_fault.specs.declared.fault.Fault.{Fault}
 use Rattle.tmem_fault.specs.declared.fault.Fault.TheVariants.{Device, Unknown}
 use Rattle.tmem_disk.proofs.Laws.{SameOutside-refl, SameOutside-trans, SameOutside-wider, slice_range-after, LeavesOnly-moment, AtEachMoment-more, AtEachMoment-elapsed, AtEachMoment-trans, Elapses-more, either_time}
 use Rattle.tmem_gate.specs.Gate.{IsOpenAt, IsClosed, StandsClosed, HasBody}
-use Rattle.tmem_gate.specs.Calls.{LooksOnly, WritesWithin, MadeBy}
+use Rattle.tmem_gate.specs.Calls.{Uses, failures_after, LooksOnly, WritesWithin, MadeBy}
 use Rattle.tmem_gate.specs.Cells.{LeftClosed, LeftOpen}
 use Rattle.tmem_gate.specs.Changes.{Outcome, WasMade, NotMade, InDoubt, NotBegun, call_outcome, Becomes, Meanwhile, Puts}
 use Rattle.tmem_gate.proofs.Laws.{gate_cases, whole_after, closed_before, by_look, WritesWithin-wider, WritesWithin-trans}
 use Rattle.tmem_record.specs.Stale.{IsStale}
 use Rattle.tmem_effect.specs.State.{State}
-use Rattle.tmem_record.specs.Layout.{pages_of, image_at, image_size}
+use Rattle.tmem_record.specs.Layout.{pages_of, image_at, image_size, end_at}
 use Rattle.tmem_record.specs.Spelling.{number_bytes}
 use Rattle.tmem_record.specs.StandsAt.{StandsAt}
 use Rattle.tmem_record.proofs.Laws.{both_parts, between_is}
@@ -21,6 +21,7 @@ use Rattle.tmem_state.specs.Versions.{mark_of}
 use Rattle.tmem_state.specs.declared.version.Version.{Version}
 use Rattle.tmem_state.specs.declared.version.Version.TheVariants.{Two}
 use Rattle.tmem_image.proofs.Lengths.{length-header_body, length-pages_body}
+use Rattle.tmem_image.proofs.Loading.{copy_within}
 use Rattle.tmem_image.specs.Spelling.{names_body, header_body, pages_body, image_body, IsImage}
 use Rattle.tmem_image.specs.Image.{IsGeneration}
 use Rattle.tmem_image.specs.Spare.{ImagePlaced, IsSettled, Left, Spares, WithoutImage, WithImage}
@@ -31,6 +32,28 @@ stale_kept at generation b c opened same stale = ⊎_elim (λ closed. absurd (cl
 
 Left-refl : (at n : ℕ) (c : List ℕ) → Left at n c c
 Left-refl at n c = record { elsewhere = SameOutside-refl at n c; stale = λ generation stale. stale }
+
+-- a call, and one after it
+pub Uses-trans : {S T : Type 0} (old mid new : DeviceView) (x : S) (r : Result T Fault) → Uses old mid (Ok x) → Uses mid new r → Uses old new r
+Uses-trans old mid new x r first second = record {
+  capacity = second.capacity ∙ first.capacity;
+  model = λ k. first.model (second.model k);
+  failures = subst (λ (n : ℕ). MatchResult r (λ _. new.failures ≡ n) (λ f. new.failures ≡ failures_after f n)) first.failures second.failures;
+}
+
+-- the parts of a copy lie within the device
+module _ (vars slots copy at capacity : ℕ) (offset : at ≡ image_at vars copy) (one : copy ≤ 1) (room : end_at vars slots ≤ capacity) where
+  whole : at + image_size vars ≤ capacity
+  whole = copy_within vars slots copy at (image_size vars) capacity offset refl one room
+
+  pub gate_within : at < capacity
+  gate_within = omega (arith, whole)
+
+  pub pages_within : (now : ℕ) → now ≡ capacity → at + 2048 + 512 * pages_of vars ≤ now
+  pages_within now same = omega (arith, whole)
+
+  pub header_within : (header now : ℕ) → header ≡ 2047 → now ≡ capacity → at + 1 + header ≤ now
+  header_within header now long same = omega (arith, whole)
 
 -- a gate is closed that reads open
 module _ (old shut : DeviceView) (at : ℕ) (device : IsDevice old) (settled : IsSettled at old) (model : shut.keeps_model → old.keeps_model) (within : WritesWithin at 1 old shut) (idle : IsClosed at old.seen → LooksOnly old shut) where

@@ -13,7 +13,7 @@ use Rattle.tmem_image.specs.Spare.{image_placed}
 use Rattle.tmem_image.specs.Spelling.{IsImage}
 use Rattle.tmem_image.proofs.Changed.{HoldsOthers-after, moments_none, moments_write, moments_both}
 use Rattle.tmem_image.proofs.Lengths.{length-header_body}
-use Rattle.tmem_image.proofs.Spared.{once_shut, once_paged, closed_once_paged, put_last, spared, paged, image_stands, is_begun}
+use Rattle.tmem_image.proofs.Spared.{Uses-trans, gate_within, pages_within, header_within, once_shut, once_paged, closed_once_paged, put_last, spared, paged, image_stands, is_begun}
 use Rattle.tmem_image.proofs.spare.write_spare.Goals as goal
 
 pub returns-in_err-shut-clause-puts : goal.returns-in_err-shut-clause-puts
@@ -114,3 +114,42 @@ returns-clause-kept g c =
     let long : length c.header_of.result ≡ 2047 = ap length c.header_of.ensures.bytes ∙ length-header_body Two c.args.generation c.args.state.now c.header_of.ensures.names in
     kept_put c.args.layout.vars c.args.copy c.image-at.result c.args.pages c.image-at.ensures c.args.state.now.values _ _ (g.met.D.Disk.is_device c.args.disk.now) (g.met.D.Disk.is_device c.shut.new.disk) c.shut.ensures.uses.model c.requires.others c.shut.ensures.spares.within
     c.values-2.result.now c.values-2.ensures (512 * pages_of c.args.layout.vars) _ it.uses.model it.elsewhere it.kept (g.met.D.Disk.is_device c.write_pages.new.disk) (length c.header_of.result) long _ c.put_cell.ensures.uses.model c.put_cell.ensures.puts.elsewhere
+
+pub shut-requires-clause-at : goal.shut-requires-clause-at
+shut-requires-clause-at g c = gate_within c.args.layout.vars c.args.layout.slots c.args.copy c.image-at.result _ c.image-at.ensures c.requires.one c.requires.room
+
+pub write_pages-requires-clause-room : goal.write_pages-requires-clause-room
+write_pages-requires-clause-room g c = pages_within c.args.layout.vars c.args.layout.slots c.args.copy c.image-at.result _ c.image-at.ensures c.requires.one c.requires.room _ c.shut.ensures.uses.capacity
+
+pub write_pages-requires-clause-sized : goal.write_pages-requires-clause-sized
+write_pages-requires-clause-sized g c = ap length c.values-2.ensures ∙ c.requires.sized
+
+pub put_cell-requires-clause-room : goal.put_cell-requires-clause-room
+put_cell-requires-clause-room g c =
+    let long : length c.header_of.result ≡ 2047 = ap length c.header_of.ensures.bytes ∙ length-header_body Two c.args.generation c.args.state.now c.header_of.ensures.names in
+    header_within c.args.layout.vars c.args.layout.slots c.args.copy c.image-at.result _ c.image-at.ensures c.requires.one c.requires.room (length c.header_of.result) _ long (c.write_pages.ensures.uses.capacity ∙ c.shut.ensures.uses.capacity)
+
+pub returns-in_err-shut-clause-durable : goal.returns-in_err-shut-clause-durable
+returns-in_err-shut-clause-durable g c = rw (err_from_is_err_and c.from_residual.result c.from_residual.ensures.1).1 tt
+
+pub returns-in_err-write_pages-clause-durable : goal.returns-in_err-write_pages-clause-durable
+returns-in_err-write_pages-clause-durable g c = rw (err_from_is_err_and c.from_residual-in_err-write_pages.result c.from_residual-in_err-write_pages.ensures.1).1 tt
+
+pub returns-clause-durable : goal.returns-clause-durable
+returns-clause-durable g c = c.put_cell.ensures.durable
+
+pub returns-in_err-shut-clause-errors : goal.returns-in_err-shut-clause-errors
+returns-in_err-shut-clause-errors g c =
+    let returned = err_from_is_err_and c.from_residual.result c.from_residual.ensures.1 in
+    rw (returned.1, returned.2) c.in_err-shut.ensures.errors
+
+pub returns-in_err-write_pages-clause-errors : goal.returns-in_err-write_pages-clause-errors
+returns-in_err-write_pages-clause-errors g c =
+    let returned = err_from_is_err_and c.from_residual-in_err-write_pages.result c.from_residual-in_err-write_pages.ensures.1 in
+    rw (returned.1, returned.2) (inl c.in_err-write_pages.ensures.err)
+
+pub returns-clause-errors : goal.returns-clause-errors
+returns-clause-errors g c = c.put_cell.ensures.errors
+
+pub returns-clause-uses : goal.returns-clause-uses
+returns-clause-uses g c = Uses-trans _ _ _ tt _ (Uses-trans _ _ _ tt _ c.in_ok-shut.ensures.uses c.in_ok-write_pages.ensures.uses) c.put_cell.ensures.uses
