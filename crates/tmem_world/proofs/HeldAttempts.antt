@@ -1,7 +1,9 @@
 -- What an attempt and a session keep.
-use Rattle.std.proofs.Common.{◌≡◌, ⊎_elim, ℕ, List, length, refl, sym, ◌∙◌, ap, subst, Option, Some, None}
-use Rattle.std.specs.Prelude.{◌<◌, true, All, Result, Ok, Err, OnOk, IfErr, option_map, IsSome}
+use Rattle.std.proofs.Common.{◌≡◌, ⊎_elim, ℕ, List, get_or, length, refl, sym, ◌∙◌, ap, subst, arith, Option, Some, None}
+use Rattle.std.specs.Prelude.{◌<◌, true, All, Result, Ok, Err, OnOk, IfErr, option_map, IsSome, vec_len}
 use Rattle.std.specs.Map.{keys_of}
+use Rattle.std.proofs.lemmas.Bool.{false≢true}
+use Rattle.std.proofs.lemmas.List.Elements.{All-weaker}
 use Rattle.tmem_fault.specs.declared.fault.Fault.{Fault}
 use Rattle.tmem_effect.specs.Names.{has_name, AreApart}
 use Rattle.tmem_effect.specs.declared.effect.Effect.{Effect}
@@ -21,7 +23,7 @@ use Rattle.tmem_core.specs.Program.{Program}
 use Rattle.tmem_event.specs.declared.event.Reply.{Reply}
 use Rattle.tmem_world.specs.declared.attempt.WorldAttempt.{WorldAttempt}
 use Rattle.tmem_world.specs.declared.session.Session as core
-use Rattle.tmem_world.specs.Attempts.{IsForStore, FitsPlan, FitsOption, FitsAttempt}
+use Rattle.tmem_world.specs.Attempts.{HoldsEnded, IsForStore, FitsPlan, FitsOption, FitsAttempt}
 use Rattle.tmem_world.specs.SettleAttempt.{SettlesAttempt, attempt_after}
 use Rattle.tmem_world.specs.declared.held.Held.{Held}
 use Rattle.tmem_world.specs.declared.held.Held.TheVariants.{With}
@@ -47,6 +49,10 @@ pub record IsPlanOf (o : Option PlanView) (tx : Tx) : Type 0 where
 pub plan_of : (o : Option PlanView) (tx : Tx) → option_map (λ plan. plan.tree) o ≡ Some tx → IsPlanOf o tx
 plan_of (Some plan) tx is = record { plan = plan; held = refl; tree = cc }
 plan_of None tx is = cc
+
+pub not_none : (o : Option PlanView) (plan : PlanView) → o ≡ Some plan → o ≡ None → ⊥
+not_none None plan is none = cc
+not_none (Some p) plan is none = cc
 
 pub is_there : (o : Option PlanView) (tx : Tx) → option_map (λ plan. plan.tree) o ≡ Some tx → IsSome o
 is_there o tx is = subst (λ (x : Option PlanView). IsSome x) (sym (plan_of o tx is).held) refl
@@ -107,6 +113,18 @@ module _ (vars : ℕ) (arities : List ℕ) (stated : StepMeanings → Type 0) (n
       by_answer (Ok settled) = tt
       by_answer (Err f) = fits
 
+  -- attempts without a plan are for any store
+  pub emptied_fit : (xs : List WorldAttempt) → All (λ (x : WorldAttempt). x.plan ≡ None) xs → All (FitsAttempt vars arities stated names tested) xs
+  emptied_fit xs emptied = All-weaker (λ x. x.plan ≡ None) (FitsAttempt vars arities stated names tested) (λ x none. subst (λ (o : Option PlanView). FitsOption vars arities stated names tested o x.cursor) (sym none) tt) xs emptied
+
+  -- an attempt that has ended is for these variables and names
+  pub ended_fits : (s : WorldAttempt) → FitsAttempt vars arities stated names tested s → HoldsEnded s → IsForStore vars names (attempt_of s.cursor)
+  ended_fits s fits held = of_plan s.plan fits held.0
+    where
+      of_plan : (o : Option PlanView) → FitsOption vars arities stated names tested o s.cursor → IsSome o → IsForStore vars names (attempt_of s.cursor)
+      of_plan None fits here = absurd (false≢true here)
+      of_plan (Some plan) fits here = fits.ended held.1
+
   -- what is for each of these meanings is so for fewer
   option_for_fewer : (fewer : Meanings → Type 0) → ((tests : Meanings) → fewer tests → tested tests) → (o : Option PlanView) (cursor : Cursor) → FitsOption vars arities stated names tested o cursor → FitsOption vars arities stated names fewer o cursor
   option_for_fewer fewer among None cursor fits = tt
@@ -119,6 +137,17 @@ module _ (vars : ℕ) (arities : List ℕ) (stated : StepMeanings → Type 0) (n
     ended = fits.ended;
   }
 
+module _ {D T S : Type 0} {d t s : _} (w : World D T S d t s) where
+  pub slot_there : (k : ℕ) → k < 16 → k < length w.attempts.items
+  slot_there k below = subst (λ (n : ℕ). k < n) (sym w.sized) below
+
+  pub slot_within : (k : ℕ) → k < 16 → k < vec_len w.attempts
+  slot_within k below = omega (arith, below, w.sized, w.attempts.ok.0)
+
+  -- what the attempt of a number holds is for the store
+  pub slot_fits : (k : ℕ) (x : WorldAttempt) → k < 16 → x ≡ get_or w.attempts.items k x → FitsAttempt w.layout.vars (s.arities w.steps) (s.is_stated w.steps) (names_of w.shapes.items) (λ tests. AreMeant tests w.shapes.items) x
+  slot_fits k x below is = subst (FitsAttempt w.layout.vars (s.arities w.steps) (s.is_stated w.steps) (names_of w.shapes.items) (λ tests. AreMeant tests w.shapes.items)) (sym is) (w.fit k x (slot_there k below))
+
 module _ {D T S : Type 0} {d t s : _} (w : World D T S d t s) (o : core.Session D T d t) (here : held_of w ≡ With o) where
   vars_here : (length (core_state o.core).values) ≡ w.layout.vars
   vars_here = o.over ∙ sym (ap (λ (h : Held D T d t). (layout_in h).vars) here) ∙ w.same_vars
@@ -130,14 +159,21 @@ module _ {D T S : Type 0} {d t s : _} (w : World D T S d t s) (o : core.Session 
   meant_here tests is = w.meant tests (subst (λ (h : Held D T d t). t.is_stated (table_in h) tests) (sym here) is)
 
   -- what an attempt holds is for the session's variables where it is for the world's
-  pub fits_session : (x : WorldAttempt) → FitsAttempt w.layout.vars (s.arities w.steps) (s.is_stated w.steps) (names_of w.shapes.items) (λ tests. AreMeant tests w.shapes.items) x
+  fits_session : (x : WorldAttempt) → FitsAttempt w.layout.vars (s.arities w.steps) (s.is_stated w.steps) (names_of w.shapes.items) (λ tests. AreMeant tests w.shapes.items) x
       → FitsAttempt (length (core_state o.core).values) (s.arities w.steps) (s.is_stated w.steps) (names_of w.shapes.items) (λ tests. AreMeant tests w.shapes.items) x
   fits_session x fits = subst (λ (vars : ℕ). FitsAttempt vars (s.arities w.steps) (s.is_stated w.steps) (names_of w.shapes.items) (λ tests. AreMeant tests w.shapes.items) x) (sym vars_here) fits
 
   -- and the other way round
-  pub fits_world : (x : WorldAttempt) → FitsAttempt (length (core_state o.core).values) (s.arities w.steps) (s.is_stated w.steps) (names_of w.shapes.items) (λ tests. AreMeant tests w.shapes.items) x
+  fits_world : (x : WorldAttempt) → FitsAttempt (length (core_state o.core).values) (s.arities w.steps) (s.is_stated w.steps) (names_of w.shapes.items) (λ tests. AreMeant tests w.shapes.items) x
       → FitsAttempt w.layout.vars (s.arities w.steps) (s.is_stated w.steps) (names_of w.shapes.items) (λ tests. AreMeant tests w.shapes.items) x
   fits_world x fits = subst (λ (vars : ℕ). FitsAttempt vars (s.arities w.steps) (s.is_stated w.steps) (names_of w.shapes.items) (λ tests. AreMeant tests w.shapes.items) x) vars_here fits
+
+  -- and so after a call that keeps it for the session
+  pub fits_after : (x y : WorldAttempt) → FitsAttempt w.layout.vars (s.arities w.steps) (s.is_stated w.steps) (names_of w.shapes.items) (λ tests. AreMeant tests w.shapes.items) x
+      → (FitsAttempt (length (core_state o.core).values) (s.arities w.steps) (s.is_stated w.steps) (names_of w.shapes.items) (λ tests. AreMeant tests w.shapes.items) x
+      → FitsAttempt (length (core_state o.core).values) (s.arities w.steps) (s.is_stated w.steps) (names_of w.shapes.items) (λ tests. AreMeant tests w.shapes.items) y)
+      → FitsAttempt w.layout.vars (s.arities w.steps) (s.is_stated w.steps) (names_of w.shapes.items) (λ tests. AreMeant tests w.shapes.items) y
+  fits_after x y fits keeps = fits_world y (keeps (fits_session x fits))
 
   -- it is for the names of the session's table too, and for what these are stated to mean
   pub fits_table : (x : WorldAttempt) → FitsAttempt w.layout.vars (s.arities w.steps) (s.is_stated w.steps) (names_of w.shapes.items) (λ tests. AreMeant tests w.shapes.items) x

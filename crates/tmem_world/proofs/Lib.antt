@@ -13,6 +13,7 @@ pub mod OpenedPoints
 pub mod Played
 pub mod Points
 pub mod Prefixes
+pub mod RefusedFlushes
 pub mod ReopenedPoints
 pub mod Serial
 pub mod SettledPoints

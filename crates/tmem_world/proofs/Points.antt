@@ -43,6 +43,10 @@ AllZip-set R (a ∷ xs) [] k x y each here = absurd each
 AllZip-set R (a ∷ xs) (b ∷ ys) zero x y each here = (here, each.1)
 AllZip-set R (a ∷ xs) (b ∷ ys) (suc k) x y each here = (each.0, AllZip-set R xs ys k x y each.1 here)
 
+-- a fact that is found once and used more than once
+pub given : {A B : Type 0} → A → (A → B) → B
+given a from = from a
+
 -- what is there, where it is known
 pub held_is : {A : Type 0} (o : Option A) (here : IsSome o) (x : A) → o ≡ Some x → what o here ≡ x
 held_is (Some y) here x is = cc
@@ -268,6 +272,11 @@ pub checkpoints_without : {D T S : Type 0} {d t s : _} (w w' : World D T S d t s
 checkpoints_without w w' none layout steps same attempts device =
     attempts_answered w w' event.Checkpoint (reply.Fault fault.Closed) layout steps same device
     (λ program means m r keeps. (m, closed_session program (held_of w) m _ none r.session, same_point w w' same program m r attempts layout)) tt (λ n. refl) tt
+
+pub looks_without : {D T S : Type 0} {d t s : _} (w : World D T S d t s) → (IsWith (held_of w) → ⊥) → IsDevice (world_view w) → IsAnswered w event.Look (reply.Fault fault.Closed) w
+looks_without w none device =
+    attempts_answered w w event.Look (reply.Fault fault.Closed) refl refl refl device
+    (λ program means m r keeps. (m, closed_session program (held_of w) m _ none r.session, r)) tt (λ n. refl) tt
 
 pub AllZip-at : {A B : Type 0} (R : A → B → Type 0) (xs : List A) (ys : List B) (k : ℕ) (d : A) (e : B) → AllZip R xs ys → k < length xs → R (get_or xs k d) (get_or ys k e)
 AllZip-at R [] ys k d e each below = absurd (omega arith)

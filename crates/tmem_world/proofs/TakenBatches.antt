@@ -1,16 +1,33 @@
 -- The oldest effects that wait, as a batch.
-use Rattle.std.proofs.Common.{◌≡◌, inr, false, ℕ, ◌+◌, ◌-◌, ◌≤◌, List, ◌++◌, length, drop, sym, ◌∙◌, ap, subst, arith}
-use Rattle.std.specs.Prelude.{Result}
+use Rattle.std.proofs.Common.{◌≡◌, inr, false, ℕ, ℤ, ◌+◌, ◌-◌, ◌≤◌, ◌<◌, List, [], ◌++◌, length, drop, sym, ◌∙◌, ap, subst, arith}
+use Rattle.std.specs.Prelude.{Result, All}
+use Rattle.std.proofs.lemmas.List.{nil_from_length}
+use Rattle.std.proofs.lemmas.List.Elements.{All-weaker}
 use Rattle.tmem_fault.specs.declared.fault.Fault.{Fault}
+use Rattle.tmem_core.specs.declared.core_state.Core.{Core}
 use Rattle.tmem_core.specs.Held.{core_state, waiting_of, durable_of, is_shut_of}
 use Rattle.tmem_core.specs.Taking.{IsTaken}
 use Rattle.tmem_journal.specs.Held as journal
 use Rattle.tmem_journal.specs.Journals as journals
 use Rattle.tmem_world.specs.declared.session.Session as core
 use Rattle.tmem_world.specs.Sessions.{SessionFlushes, waiting_after}
+use Rattle.tmem_effect.specs.Loggable.{IsLoggable}
 use Rattle.tmem_effect.specs.State.{StaysWithin, fold}
 use Rattle.tmem_effect.specs.declared.effect.Effect.{Effect}
 use Rattle.tmem_effect.proofs.Laws.{fold-append, count-fold, StaysWithin-front, StaysWithin-back}
+
+-- each writes variables that are there
+pub loggable_within : (vars n : ℕ) (es : List Effect) → vars ≡ n → All (IsLoggable vars) es → All (λ (e : Effect). All (λ (w : ℕ × ℤ). w.0 < n) e.writes) es
+loggable_within vars n es same each =
+    subst (λ (k : ℕ). All (λ (e : Effect). All (λ (w : ℕ × ℤ). w.0 < k) e.writes) es) same (All-weaker (IsLoggable vars) (λ e. All (λ (w : ℕ × ℤ). w.0 < vars) e.writes) (λ e is. is.effect.within) es each)
+
+-- nothing waits where all that is committed is durable, and else something does
+module _ {T : Type 0} {t : _} (core : Core T t) (durable count : ℕ) (known : durable ≡ durable_of core) (committed : count ≡ (core_state core).count) where
+  pub nothing_waits : durable ≡ count → waiting_of core ≡ []
+  nothing_waits all = nil_from_length (waiting_of core) (omega (arith, core.counted))
+
+  pub some_wait : ¬ (durable ≡ count) → durable < (core_state core).count
+  some_wait not_all = omega (arith, core.counted, not_all)
 
 -- these were taken of what waits, from the durable number on
 module _ {D T : Type 0} {d t : _} (o : core.Session D T d t) (from : ℕ) (is : from ≡ durable_of o.core) (es : List Effect) (taken : drop (from - durable_of o.core) (waiting_of o.core) ≡ es ++ drop (from + length es - durable_of o.core) (waiting_of o.core)) where

@@ -1,5 +1,5 @@
 -- Where a flush and a checkpoint write.
-use Rattle.std.proofs.Common.{◌≡◌, ◌⊎◌, ℕ, ◌*◌, ◌+◌, ◌<◌, List, sym, ◌∙◌, ap, subst, arith}
+use Rattle.std.proofs.Common.{◌≡◌, ◌⊎◌, inl, ℕ, ◌*◌, ◌+◌, ◌<◌, List, refl, sym, ◌∙◌, ap, subst, arith}
 use Rattle.std.specs.Prelude.{Result, Ok, Err}
 use Rattle.tmem_disk.specs.Disk.{DeviceView, IsDevice, AtEachMoment}
 use Rattle.tmem_fault.specs.declared.fault.Fault.{Fault}
@@ -51,6 +51,17 @@ pub flush_called : {D T : Type 0} {d t : _} (o o' : core.Session D T d t) → Is
     → journal_layout o'.journal ≡ journal_layout o.journal → core_state o'.core ≡ core_state o.core → core_table o'.core ≡ core_table o.core → CallsDevice (slot_at (journal_layout o.journal).vars 0) (4096 * (journal_layout o.journal).slots) o x o'
 flush_called o o' device es x uses during it within layout state table =
     record { uses = uses; any_moment = during; elsewhere = in_log o.journal o'.journal device es x it within; layout = layout; state = state; table = table }
+
+-- no call of the device at all
+pub called_nothing : {A D T : Type 0} {d t : _} (at n : ℕ) (o : core.Session D T d t) → IsDevice (journal_device o.journal) → (x : Result A Fault) → Uses (journal_device o.journal) (journal_device o.journal) x → CallsDevice at n o x o
+called_nothing at n o device x uses = record {
+  uses = uses;
+  any_moment = record { each = λ k c left. ∣ inl (o.journal.stands.each k c (device.only_now c k left)) ∣₁ };
+  elsewhere = WritesWithin-refl at n (journal_device o.journal) device;
+  layout = refl;
+  state = refl;
+  table = refl;
+}
 
 -- the log is in the store
 pub log_within : (vars slots : ℕ) (old new : DeviceView) → WritesWithin (slot_at vars 0) (4096 * slots) old new → WritesWithin (image_at vars 0) (2 * image_size vars + 4096 * slots) old new

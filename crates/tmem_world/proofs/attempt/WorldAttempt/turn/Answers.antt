@@ -1,5 +1,6 @@
 use Rattle.std.proofs.Common.{◌≡◌, ◌∙◌, sym, ap, length, rules, FitsSigned, to_z, of_z, w64, pos, subst, List, [], ◌∷◌, ◌++◌, ℤ, ℕ, Bool, true, Some, nat_eq}
 use Rattle.std.specs.Prelude.{slice_get, slice_index_or}
+use Rattle.std.proofs.lemmas.Bool.{false≢true}
 use Rattle.std.proofs.lemmas.Int.{to_z-of_z}
 use Rattle.std.proofs.lemmas.Option.{get_or_from_slice_get}
 use Rattle.indexmap.specs.IndexMap.{insert_entry}
@@ -10,7 +11,7 @@ use Rattle.tmem_tentative.specs.Cursors.{attempt_of, probe_of}
 use Rattle.tmem_tentative.specs.declared.attempt.Outcome.TheVariants as outcome
 use Rattle.tmem_tentative.specs.declared.attempt.Probe.{Probe as Asked}
 use Rattle.tmem_core.specs.Held.{core_state, core_table}
-use Rattle.tmem_world.proofs.HeldAttempts.{plan_fits, with_plan_fits}
+use Rattle.tmem_world.proofs.HeldAttempts.{not_none, plan_fits, with_plan_fits}
 use Rattle.tmem_world.proofs.TurnedPoints.{comes_to, filled_in, stays_at}
 use Rattle.tmem_world.proofs.attempt.WorldAttempt.turn.Goals as goal
 
@@ -125,3 +126,31 @@ pub returns-in-Ok-Probe-clause-at : goal.returns-in-Ok-Probe-clause-at
 returns-in-Ok-Probe-clause-at g c = λ plan m tests is means asked at.
     let fits = plan_fits _ _ _ _ _ c.args.self.now c.in-Some.plan c.in-Some.is c.requires in
     c.answer.ensures.at m tests plan.tree (stays_at (g.S.StoredSteps.is_stated c.args.steps.now) (g.T.Invariants.is_stated (core_table c.args.core.now)) c.args.self.now.plan plan c.in-Some.plan is c.in-Some.is fits.shapes c.args.self.now.cursor c.advance.new.self c.advance.ensures.at m tests means asked at) (c.probe-held.ensures tests asked ∙ ap (λ (p : Asked). tests.test p.name p.values) c.probe-probe.ensures)
+
+pub advance-requires-clause-stands : goal.advance-requires-clause-stands
+advance-requires-clause-stands g c = (plan_fits _ _ _ _ _ c.args.self.now c.in-Some.plan c.in-Some.is c.requires).stands
+
+pub advance-requires-clause-steps : goal.advance-requires-clause-steps
+advance-requires-clause-steps g c = (plan_fits _ _ _ _ _ c.args.self.now c.in-Some.plan c.in-Some.is c.requires).steps
+
+pub returns-in-Err-clause-fits : goal.returns-in-Err-clause-fits
+returns-in-Err-clause-fits g c = λ shapes held.
+    let plan = c.in-Some.plan in
+    let fits = plan_fits _ _ _ _ _ c.args.self.now plan c.in-Some.is held in
+    with_plan_fits (length (core_state c.args.core.now).values) (g.S.StoredSteps.arities c.args.steps.now) (g.S.StoredSteps.is_stated c.args.steps.now) (names_of shapes) (λ tests. AreMeant tests shapes) _ plan c.in-Some.is
+    (record { variables = fits.variables; steps = fits.steps; names = fits.names; shapes = fits.shapes; stands = c.advance.ensures.stands; ended = λ ended. absurd (false≢true (sym c.if-is_ended.false ∙ c.is_ended.ensures.1 (sym c.in-Err.ensures.same.stage ∙ ended))) })
+
+pub returns-then-is_ended-clause-begun : goal.returns-then-is_ended-clause-begun
+returns-then-is_ended-clause-begun g c = λ plan is going. absurd (going (c.is_ended.ensures.0 c.if-is_ended.true))
+
+pub returns-in-Ok-Need-clause-ended : goal.returns-in-Ok-Need-clause-ended
+returns-in-Ok-Need-clause-ended g c = λ held. absurd (false≢true (sym c.if-is_ended.false ∙ c.is_ended.ensures.1 held.1))
+
+pub returns-in-Ok-Probe-clause-ended : goal.returns-in-Ok-Probe-clause-ended
+returns-in-Ok-Probe-clause-ended g c = λ held. absurd (false≢true (sym c.if-is_ended.false ∙ c.is_ended.ensures.1 held.1))
+
+pub returns-in-Ok-Ended-clause-ended : goal.returns-in-Ok-Ended-clause-ended
+returns-in-Ok-Ended-clause-ended g c = λ held. absurd (false≢true (sym c.if-is_ended.false ∙ c.is_ended.ensures.1 held.1))
+
+pub returns-in-Ok-Need-clause-idle : goal.returns-in-Ok-Need-clause-idle
+returns-in-Ok-Need-clause-idle g c = λ none. absurd (not_none c.args.self.now.plan c.in-Some.plan c.in-Some.is none)
