@@ -1,3 +1,4 @@
+pub mod Counts
 pub mod Folded
 pub mod Known
 pub mod Laws

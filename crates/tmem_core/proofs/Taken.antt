@@ -1,7 +1,8 @@
 -- The effects that are taken together.
-use Rattle.std.proofs.Common.{◌≡◌, ℕ, ◌+◌, ◌<◌, ◌≤◌, inl, inr, List, [], ◌∷◌, ◌++◌, length, take, drop, Some, sym, ap, ◌∙◌, subst, arith}
-use Rattle.std.specs.Prelude.{slice_get}
-use Rattle.std.proofs.lemmas.List.{drop-drop, length-take-le, take-append-drop, take-take, take_more}
+use Rattle.std.proofs.Common.{◌≡◌, ℕ, ◌+◌, ◌-◌, ◌<◌, ◌≤◌, inl, inr, ⊎_elim, List, [], ◌∷◌, ◌++◌, length, take, drop, Some, sym, ap, ◌∙◌, subst, arith}
+use Rattle.std.specs.Prelude.{slice_get, All}
+use Rattle.std.proofs.lemmas.List.Elements.{All-take}
+use Rattle.std.proofs.lemmas.List.{drop-drop, length-drop, length-take-le, take-append-drop, take-take, take_more}
 use Rattle.std.proofs.lemmas.List.Sums.{sum_by-take-le}
 use Rattle.std.proofs.lemmas.Option.{get_or_from_slice_get, slice_get_within}
 use Rattle.std.proofs.lemmas.Bool.{cases_lt}
@@ -38,6 +39,21 @@ module _ (waits : List Effect) where
           room = λ i under. earlier i (length taken) (omega (arith, long, under)) so_far.within (subst BatchHasRoom (sym so_far.first) room);
         }
 
+    -- each is one of those that wait
+    pub each_taken : (P : Effect → Type 0) → All P waits → All P taken
+    each_taken P each = subst (λ (es : List Effect). All P es) so_far.first (All-take P (length taken) waits each)
+
+    -- they are no more than a batch has
+    pub few_taken : length taken ≤ 64
+    few_taken = ⊎_elim
+        (λ none. omega (arith, none))
+        (λ some. let before = (so_far.room (length taken - 1) (omega (arith, some))).0 in omega (arith, some, before, length-take-le (length taken - 1) waits (omega (arith, so_far.within))))
+        (cases_lt (length taken) 1)
+
+    -- nothing waits behind them
+    pub taken_all : length waits ≤ length taken → IsTaken waits taken
+    taken_all all = record { first = so_far.first; each = λ i below. (so_far.room i, λ room. omega (arith, below, all)) }
+
     -- there is no room for more
     pub taken_full : (BatchHasRoom taken → ⊥) → IsTaken waits taken
     taken_full full = record { first = so_far.first; each = λ i below. (so_far.room i, λ room. beneath i below room) } where
@@ -47,6 +63,10 @@ module _ (waits : List Effect) where
             | inl low ↦ low
             | inr high ↦ absurd (full (subst BatchHasRoom so_far.first (earlier (length taken) i high (omega (arith, below)) room)))
           ]
+
+-- all that wait from an index on were taken
+pub taken_to_end : (all taken : List Effect) (k at n : ℕ) → IsTakenSoFar (drop k all) taken → at ≡ k + length taken → n ≡ length all → n ≤ at → IsTaken (drop k all) taken
+taken_to_end all taken k at n so_far here long end = taken_all (drop k all) taken so_far (omega (arith, here, long, end, length-drop k all))
 
 -- what is left of a list behind those that were taken from an index on
 pub rest_of : (all taken : List Effect) (k n : ℕ) → IsTaken (drop k all) taken → n ≡ k + length taken → drop k all ≡ taken ++ drop n all

@@ -1,10 +1,12 @@
-use Rattle.std.proofs.Common.{length, sym, subst, ◌∙◌, arith}
+use Rattle.std.proofs.Common.{◌≡◌, ◌+◌, ◌≤◌, List, length, sym, ap, subst, ◌∙◌, arith}
 use Rattle.std.proofs.lemmas.List.Elements.{All-push}
+use Rattle.tmem_effect.specs.declared.effect.Effect.{Effect}
 use Rattle.tmem_effect.specs.State.{State, apply, IsWithin}
 use Rattle.tmem_effect.proofs.Laws.{length-values-apply, AreRegistered-apply}
 use Rattle.tmem_invariants.specs.Meanings.{AllHold}
 use Rattle.tmem_invariants.specs.Indices.{AreIndicesOf}
 use Rattle.tmem_effect.specs.Loggable.{IsLoggable}
+use Rattle.tmem_core.proofs.Counts.{room_left, few_on, counts_on, count_left}
 use Rattle.tmem_core.proofs.Known.{AreAmong}
 use Rattle.tmem_core.specs.History.{effects_of}
 use Rattle.tmem_core.proofs.Folded.{folded-push}
@@ -52,3 +54,24 @@ invariant_of-self-clause-sound g c = λ m stated. subst (λ (s : State). AllHold
 pub invariant_of-self-clause-indexed : goal.invariant_of-self-clause-indexed
 invariant_of-self-clause-indexed g c =
     subst (λ (s : State). AreIndicesOf s.names (g.T.Invariants.names c.args.self.now.table) c.args.indices) (sym c.commit.ensures) c.requires.indices
+
+pub commit-requires-clause-countable : goal.commit-requires-clause-countable
+commit-requires-clause-countable g c =
+    let core = c.args.self.now in
+    count_left core.state.count c.count-number.result c.count-number.ensures core.countable c.if-number.false
+
+pub push-requires : goal.push-requires
+push-requires g c =
+    let core = c.args.self.now in
+    room_left core.state.count core.durable c.count-number.result core.waiting c.args.effect.now c.count-number.ensures core.counted core.few c.if-number-self.false
+
+pub invariant_of-self-clause-few : goal.invariant_of-self-clause-few
+invariant_of-self-clause-few g c =
+    let core = c.args.self.now in
+    subst (λ (es : List Effect). length es ≤ 256) (sym c.push.ensures) (few_on core.state.count core.durable c.count-number.result core.waiting c.args.effect.now c.count-number.ensures core.counted core.few c.if-number-self.false)
+
+pub invariant_of-self-clause-counted : goal.invariant_of-self-clause-counted
+invariant_of-self-clause-counted g c =
+    let core = c.args.self.now in
+    subst (λ (es : List Effect). c.commit.new.self.count ≡ core.durable + length es) (sym c.push.ensures)
+    (ap (λ (s : State). s.count) c.commit.ensures ∙ counts_on core.state.count core.durable c.count-number.result core.waiting c.args.effect.now c.count-number.ensures core.counted)
