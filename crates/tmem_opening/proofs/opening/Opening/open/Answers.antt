@@ -1,4 +1,4 @@
-use Rattle.std.proofs.Common.{◌≡◌, ℕ, length, Some, sym, ◌∙◌, ap, subst}
+use Rattle.std.proofs.Common.{◌≡◌, ◌⊎◌, inl, ℕ, length, Some, refl, sym, ◌∙◌, ap, subst}
 use Rattle.tmem_disk.specs.Disk.{LeavesOnly, SameDevice}
 use Rattle.tmem_fault.specs.declared.fault.Fault.TheVariants as fault
 use Rattle.tmem_effect.specs.State.{State}
@@ -103,3 +103,34 @@ invariant_of-result g c =
       meant = λ m stated. made.meant m (subst (λ t. g.T.Invariants.is_stated t m) table stated);
       within = subst (λ (n : ℕ). AreWithin n c.in-Ok-made.shapes.items) (sym values) made.within;
     }
+
+pub new-requires : goal.new-requires
+new-requires g c =
+    let sized = ap (λ (s : State). length s.values) c.state.ensures ∙ c.in-Ok.journal.sized ∙ c.in-Ok.ensures.fits.0 in
+    record { vars = c.requires ∙ sym sized }
+
+pub returns-in-Err-clause-recovers : goal.returns-in-Err-clause-recovers
+returns-in-Err-clause-recovers g c = λ p a b are sound_a sound_b fits left keeps. c.in-Err.ensures.either a b fits left keeps
+
+pub returns-in-Err-made-clause-recovers : goal.returns-in-Err-made-clause-recovers
+returns-in-Err-made-clause-recovers g c = λ p a b are sound_a sound_b fits left keeps. inl refl
+
+pub returns-in-Ok-made-clause-recovers : goal.returns-in-Ok-made-clause-recovers
+returns-in-Ok-made-clause-recovers g c = λ p a b are sound_a sound_b fits left keeps.
+    let same = ap (λ v. v.state) c.in-Ok-new.ensures.view ∙ c.state.ensures in
+    subst (λ (s : State). ∥ (s ≡ a) ⊎ (s ≡ b) ∥₁) (sym same) (c.in-Ok.ensures.either a b fits left keeps)
+
+pub returns-in-Err-clause-untouched : goal.returns-in-Err-clause-untouched
+returns-in-Err-clause-untouched g c = c.in-Err.ensures.untouched
+
+pub returns-in-Err-new-clause-untouched : goal.returns-in-Err-new-clause-untouched
+returns-in-Err-new-clause-untouched g c = λ no. absurd (no c.in-Ok.ensures.fits.2)
+
+pub returns-in-Err-made-clause-untouched : goal.returns-in-Err-made-clause-untouched
+returns-in-Err-made-clause-untouched g c = λ no. absurd (no c.in-Ok.ensures.fits.2)
+
+pub returns-in-Err-new-clause-back : goal.returns-in-Err-new-clause-back
+returns-in-Err-new-clause-back g c = c.in-Err-new.ensures.back
+
+pub returns-in-Err-made-clause-back : goal.returns-in-Err-made-clause-back
+returns-in-Err-made-clause-back g c = c.into_table.ensures ∙ ap (λ v. v.table) c.in-Ok-new.ensures.view
