@@ -4,11 +4,12 @@ use Rattle.tmem_effect.specs.State.{State}
 use Rattle.tmem_effect.proofs.Laws.{count-fold, IsPrefix-self}
 use Rattle.tmem_core.specs.Held as core
 use Rattle.tmem_core.specs.Held.{core_state, durable_of, is_shut_of, core_table, committing}
-use Rattle.tmem_core.specs.Decisions.{taken_by}
+use Rattle.tmem_core.specs.Decisions.{taken_by, RetriesAt}
 use Rattle.tmem_core.specs.Program.{IsProgramOf}
 use Rattle.tmem_core.specs.SettleAnswer.{settle_answer, judged}
 use Rattle.tmem_core.specs.Verdict.{verdict}
 use Rattle.tmem_tree.specs.declared.settled.Settled.{Settled}
+use Rattle.tmem_spine.specs.History.{count}
 use Rattle.tmem_spine.specs.Views.{CoreRoleView}
 use Rattle.tmem_seats.specs.Histories.{state_after_history, marked}
 use Rattle.tmem_seats.specs.Seats.{CoreSeatView}
@@ -64,3 +65,11 @@ returns-clause-decided g c =
       sound = (invariant_of-self g c).sound c.enter.new.side.committed (IsPrefix-self c.enter.new.side.committed);
       rest = search rules;
     }
+
+pub returns-clause-retries : goal.returns-clause-retries
+returns-clause-retries g c =
+    let start = g.N.Naming.name.start in
+    let opening = g.N.StoreNaming.opening in
+    let state = ap (λ (v : core.CoreView _). v.state) c.note_durable.ensures ∙ c.self.invariant.state in
+    let many = ap (λ (s : State). s.count) state ∙ count-after opening start c.self.inside.side.committed c.self.invariant.starts ∙ ap (λ (v : CoreSeatView). count start v.committed) c.self.view_is in
+    subst (λ (n : ℕ). RetriesAt n c.decide-decision.result) many c.decide-decision.ensures.retries

@@ -1,5 +1,6 @@
 use Rattle.std.proofs.Common.{ℤ, Some, length, ap, sym, ◌∙◌, subst, rules, w64}
 use Rattle.std.proofs.Math.Facts.{to_z-of_z}
+use Rattle.std.proofs.lemmas.Result.{err_from_is_err_and}
 use Rattle.tmem_core.specs.SettleAnswer.{is_stale}
 use Rattle.tmem_tentative.specs.Cursors.{Answered, outcome_of, probe_of, given, answers}
 use Rattle.tmem_tentative.specs.Fits.{IsWithinVariables, IsNamed, IsFilled}
@@ -84,3 +85,38 @@ returns-in-Ended-clause-right g c = λ m stated.
 pub returns-in-Ended-clause-present : goal.returns-in-Ended-clause-present
 returns-in-Ended-clause-present g c =
     ap (λ l. is_stale (state_after_history g.N.StoreNaming.opening c.args.self.now.committed) l) c.advance.ensures.given ∙ c.loop.invariant.present
+
+pub returns-in_err-restart-clause-ended : goal.returns-in_err-restart-clause-ended
+returns-in_err-restart-clause-ended g c = rw (err_from_is_err_and c.from_residual.result c.from_residual.ensures.1).1 tt
+
+pub returns-in_err-restart-clause-variables : goal.returns-in_err-restart-clause-variables
+returns-in_err-restart-clause-variables g c = rw (err_from_is_err_and c.from_residual.result c.from_residual.ensures.1).1 tt
+
+pub returns-in_err-restart-clause-names : goal.returns-in_err-restart-clause-names
+returns-in_err-restart-clause-names g c = rw (err_from_is_err_and c.from_residual.result c.from_residual.ensures.1).1 tt
+
+pub returns-in_err-restart-clause-present : goal.returns-in_err-restart-clause-present
+returns-in_err-restart-clause-present g c = rw (err_from_is_err_and c.from_residual.result c.from_residual.ensures.1).1 tt
+
+pub returns-in_err-restart-clause-right : goal.returns-in_err-restart-clause-right
+returns-in_err-restart-clause-right g c = λ m stated. rw (err_from_is_err_and c.from_residual.result c.from_residual.ensures.1).1 tt
+
+pub returns-in_err-var-clause-ended : goal.returns-in_err-var-clause-ended
+returns-in_err-var-clause-ended g c = rw (err_from_is_err_and c.from_residual-in_err-var.result c.from_residual-in_err-var.ensures.1).1 tt
+
+pub returns-in_err-var-clause-variables : goal.returns-in_err-var-clause-variables
+returns-in_err-var-clause-variables g c = rw (err_from_is_err_and c.from_residual-in_err-var.result c.from_residual-in_err-var.ensures.1).1 tt
+
+pub returns-in_err-var-clause-names : goal.returns-in_err-var-clause-names
+returns-in_err-var-clause-names g c = rw (err_from_is_err_and c.from_residual-in_err-var.result c.from_residual-in_err-var.ensures.1).1 tt
+
+pub returns-in_err-var-clause-present : goal.returns-in_err-var-clause-present
+returns-in_err-var-clause-present g c = rw (err_from_is_err_and c.from_residual-in_err-var.result c.from_residual-in_err-var.ensures.1).1 tt
+
+pub returns-in_err-var-clause-right : goal.returns-in_err-var-clause-right
+returns-in_err-var-clause-right g c = λ m stated. rw (err_from_is_err_and c.from_residual-in_err-var.result c.from_residual-in_err-var.ensures.1).1 tt
+
+pub returns-in_err-var-clause-memory : goal.returns-in_err-var-clause-memory
+returns-in_err-var-clause-memory g c =
+    let returned = err_from_is_err_and c.from_residual-in_err-var.result c.from_residual-in_err-var.ensures.1 in
+    rw (returned.1, returned.2) c.in_err-var.ensures.fault
