@@ -1,11 +1,12 @@
 -- What follows from the definitions of a device alone: ranges of a content that are written over, what a crash leaves, and
 -- how the words of two calls join. A law on the calls from a first view to a second and from there to a third takes that
 -- the third keeps the model only where the second does.
-use Rattle.std.proofs.Common.{◌≡◌, ◌⊎◌, inl, inr, ⊎_elim, ℕ, zero, suc, ◌+◌, ◌-◌, ◌<◌, ◌≤◌, List, [], ◌∷◌, ◌++◌, length, take, drop, refl, sym, ◌∙◌, ap, subst, arith, append_assoc}
+use Rattle.std.proofs.Common.{◌≡◌, ◌⊎◌, inl, inr, ⊎_elim, ℕ, zero, suc, ◌+◌, ◌-◌, ◌^◌, ◌<◌, ◌≤◌, ◌↔◌, true, false, Result, Ok, Err, List, [], ◌∷◌, ◌++◌, length, take, drop, refl, sym, ◌∙◌, ap, subst, arith, append_assoc}
 use Rattle.std.specs.Prelude.{slice_get, slice_range}
 use Rattle.std.proofs.lemmas.List.{length-take-le, take-take, drop_at, drop-drop, take_at, drop-take}
 use Rattle.std.proofs.lemmas.Bool.{cases_lt}
-use Rattle.tmem_disk.specs.Disk.{DeviceView, IsDevice, overwritten, SameOutside, ReadsAs, LeavesOnly, LeavesEach, StillLeaves, IsSynced, AtEachMoment, Elapses, Rewritten}
+use Rattle.tmem_disk.specs.Disk.{DeviceView, IsCall, IsDevice, after_fault, overwritten, SameOutside, ReadsAs, LeavesOnly, LeavesEach, StillLeaves, IsSynced, AtEachMoment, Elapses, Rewritten}
+use Rattle.tmem_disk.specs.declared.disk.DeviceFault.{DeviceFault}
 use Rattle.tmem_disk.proofs.Ranges.{length-overwritten, take-overwritten, drop-overwritten}
 
 -- a write changes nothing outside its range
@@ -198,3 +199,29 @@ Elapses-write_then old mid new at n model first written second crash =
 -- where all with anything in a range may be left, nothing is taken away
 pub still_leaves : (old new : DeviceView) (at n : ℕ) → LeavesEach new (Rewritten at n old) → StillLeaves old new
 still_leaves old new at n each = λ keeps c left. (each keeps c).1 (Rewritten-left at n old c left)
+
+-- a call behind calls that did not fail
+module _ (old mid new : DeviceView) {T : Type 0} {IsFault : DeviceFault → Type 0} (capacity : mid.capacity ≡ old.capacity) (failures : mid.failures ≡ old.failures) (model : mid.keeps_model → old.keeps_model) where
+  -- where it fails, all of them do, by its fault
+  pub fails_last : (f : DeviceFault) → IsCall {T = T} mid new (Err f) IsFault → {U : Type 0} {IsOther : DeviceFault → Type 0} (r : Result U DeviceFault) → r ≡ Err f → IsOther f → IsCall old new r IsOther
+  fails_last f call r is fault = rw is (record {
+    capacity = call.capacity ∙ capacity;
+    ok = tt;
+    err = call.err ∙ ap (λ (n : ℕ). after_fault n) failures;
+    rose = subst (λ (n : ℕ). n + 1 < 2 ^ 64 → (true ≡ true) ↔ (n < new.failures)) failures call.rose;
+    fault = fault;
+    last = call.last;
+    model = λ keeps. model (call.model keeps);
+  })
+
+  -- and else none does
+  pub fails_not : (x : T) → mid.last_fault ≡ old.last_fault → IsCall mid new (Ok x) IsFault → {U : Type 0} {IsOther : DeviceFault → Type 0} (y : U) → IsCall old new (Ok y) IsOther
+  fails_not x last call y = record {
+    capacity = call.capacity ∙ capacity;
+    ok = call.ok ∙ failures;
+    err = tt;
+    rose = subst (λ (n : ℕ). n + 1 < 2 ^ 64 → (false ≡ true) ↔ (n < new.failures)) failures call.rose;
+    fault = tt;
+    last = call.last ∙ last;
+    model = λ keeps. model (call.model keeps);
+  }

@@ -3,7 +3,8 @@ use Rattle.std.proofs.lemmas.Bool.{false≢true}
 use Rattle.std.proofs.lemmas.Result.{err_from_is_err_and}
 use Rattle.tmem_disk.proofs.Laws.{LeavesOnly-each}
 use Rattle.tmem_disk.specs.declared.disk.DeviceFault.{DeviceFault}
-use Rattle.tmem_gate.proofs.Calls.{fails_last, fails_not, looks_never}
+use Rattle.tmem_disk.proofs.Laws.{fails_last, fails_not}
+use Rattle.tmem_gate.proofs.Calls.{looks_never}
 use Rattle.tmem_gate.proofs.Laws.{looks, by_look, WritesWithin-trans}
 use Rattle.tmem_gate.proofs.cell.close_if_open.Goals as goal
 

@@ -3,7 +3,7 @@ use Rattle.std.proofs.lemmas.Result.{err_from_is_err_and}
 use Rattle.tmem_disk.specs.declared.disk.DeviceFault.{DeviceFault}
 use Rattle.tmem_gate.specs.Gate.{IsClosed}
 use Rattle.tmem_gate.proofs.Laws.{closed_along, LooksOnly-refl, LooksOnly-trans}
-use Rattle.tmem_redolog.proofs.Calls.{fails_last}
+use Rattle.tmem_disk.proofs.Laws.{fails_last}
 use Rattle.tmem_redolog.proofs.Closing.{gate_fits, looks_given, closed_up_to, Sets-refl, Sets-next, sets_closes, shut_in, idle_next, idle_so_far, closed_next, no_gate_open, none_open_yet}
 use Rattle.tmem_redolog.proofs.stale.close_gates.Goals as goal
 use Rattle.tmem_redolog.proofs.stale.close_gates.Goals.{then-any, else-any}

@@ -5,7 +5,7 @@ use Rattle.tmem_disk.specs.declared.disk.DeviceFault.{DeviceFault}
 use Rattle.tmem_gate.specs.Gate.{IsClosed}
 use Rattle.tmem_gate.proofs.Laws.{looks, LooksOnly-trans}
 use Rattle.tmem_record.specs.Layout.{slot_at}
-use Rattle.tmem_redolog.proofs.Calls.{fails_last, fails_not}
+use Rattle.tmem_disk.proofs.Laws.{fails_last, fails_not}
 use Rattle.tmem_redolog.proofs.Closing.{Closes-then_look, closed_still}
 use Rattle.tmem_redolog.proofs.stale.close_stale.Goals as goal
 
