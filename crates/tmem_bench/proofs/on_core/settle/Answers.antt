@@ -45,3 +45,15 @@ decide-requires-clause-names g c =
       apart = named.apart;
       ending = ending_unnamed _ _ named.ending;
     }
+
+pub loop-init : goal.loop-init
+loop-init g c = (c.requires.sized, λ m stated. c.in_ok-restart.ensures.stands m)
+
+pub advance-requires-clause-steps : goal.advance-requires-clause-steps
+advance-requires-clause-steps g c = c.requires.steps
+
+pub advance-requires-clause-stands : goal.advance-requires-clause-stands
+advance-requires-clause-stands g c = c.loop.invariant.1
+
+pub loop-preserved : goal.loop-preserved
+loop-preserved g c = (c.loop.invariant.0, λ m stated. c.give.ensures.stands m c.args.plan.now (c.advance.ensures.stands m stated))
