@@ -174,3 +174,6 @@ returns-in_err-flush-in-Err-clause-served g c = rw (err_from_is_err_and c.from_r
 
 pub returns-in_err-flush-in-Err-clause-whole : goal.returns-in_err-flush-in-Err-clause-whole
 returns-in_err-flush-in-Err-clause-whole g c = rw (err_from_is_err_and c.from_residual-in_err-flush-in-Err.result c.from_residual-in_err-flush-in-Err.ensures.1).1 tt
+
+pub returns-in-Err-clause-stopped : goal.returns-in-Err-clause-stopped
+returns-in-Err-clause-stopped g c = tt

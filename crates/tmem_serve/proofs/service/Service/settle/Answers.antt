@@ -41,3 +41,12 @@ returns-in_err-flush_with_room-in-Err-Full-clause-settles g c = rw (err_from_is_
 
 pub try_atomically-requires-clause-variables : goal.try_atomically-requires-clause-variables
 try_atomically-requires-clause-variables g c = subst (λ (n : ℕ). FitsVariables n c.args.ready.now.plan) (sym c.args.self.now.front.now.over) c.args.ready.now.variables
+
+pub try_atomically-requires-clause-names : goal.try_atomically-requires-clause-names
+try_atomically-requires-clause-names g c = c.args.ready.now.names
+
+pub try_atomically-requires-clause-shapes : goal.try_atomically-requires-clause-shapes
+try_atomically-requires-clause-shapes g c = c.args.ready.now.shapes
+
+pub returns-in-Ok-clause-knows : goal.returns-in-Ok-clause-knows
+returns-in-Ok-clause-knows g c = tt

@@ -23,3 +23,12 @@ loop-init g c = knows_still c.args.pass.now
 
 pub loop-preserved : goal.loop-preserved
 loop-preserved g c = knows_then c.args.pass.now c.loop.pass c.settle_or_flush.new.pass c.loop.invariant (c.in_ok-answer.ensures.none (rw c.in_default.is refl))
+
+pub settle_or_flush-requires-clause-variables : goal.settle_or_flush-requires-clause-variables
+settle_or_flush-requires-clause-variables g c = c.requires.variables
+
+pub settle_or_flush-requires-clause-names : goal.settle_or_flush-requires-clause-names
+settle_or_flush-requires-clause-names g c = c.requires.names
+
+pub returns-in-Some-2-clause-knows : goal.returns-in-Some-2-clause-knows
+returns-in-Some-2-clause-knows g c = tt

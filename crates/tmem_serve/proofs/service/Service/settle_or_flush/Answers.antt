@@ -52,3 +52,21 @@ returns-in_err-flush_with_room-in-Err-Full-clause-settles g c = rw (err_from_is_
 
 pub returns-in_err-flush_with_room-in-Err-Full-clause-none : goal.returns-in_err-flush_with_room-in-Err-Full-clause-none
 returns-in_err-flush_with_room-in-Err-Full-clause-none g c = rw (err_from_is_err_and c.from_residual.result c.from_residual.ensures.1).1 tt
+
+pub returns-in-Ok-clause-knows : goal.returns-in-Ok-clause-knows
+returns-in-Ok-clause-knows g c = tt
+
+pub returns-in-Err-clause-settles : goal.returns-in-Err-clause-settles
+returns-in-Err-clause-settles g c = tt
+
+pub returns-in-Err-clause-none : goal.returns-in-Err-clause-none
+returns-in-Err-clause-none g c = tt
+
+pub returns-in-Err-Conflict-clause-knows : goal.returns-in-Err-Conflict-clause-knows
+returns-in-Err-Conflict-clause-knows g c = tt
+
+pub returns-in_ok-flush_with_room-in-Err-Full-clause-settles : goal.returns-in_ok-flush_with_room-in-Err-Full-clause-settles
+returns-in_ok-flush_with_room-in-Err-Full-clause-settles g c = tt
+
+pub returns-in_ok-flush_with_room-in-Err-Full-clause-knows : goal.returns-in_ok-flush_with_room-in-Err-Full-clause-knows
+returns-in_ok-flush_with_room-in-Err-Full-clause-knows g c = tt
