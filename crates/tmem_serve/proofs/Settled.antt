@@ -1,10 +1,11 @@
 -- Attempts that are made again until one is settled.
-use Rattle.std.proofs.Common.{◌≡◌, [], Result, Ok, Err, refl, sym, subst}
+use Rattle.std.proofs.Common.{◌≡◌, ◌∙◌, [], Result, Ok, Err, refl, sym, ap, subst}
 use Rattle.tmem_fault.specs.declared.fault.Fault.{Fault}
 use Rattle.tmem_core.specs.SettleAnswer.{committed_by}
 use Rattle.tmem_seats.specs.Settling.{SettlesPass, SettlesPlan, SettlesAtLast, KnowsMore}
 use Rattle.tmem_front.proofs.Laws.{settles_at_last, knows_more_at_last, knows_more, settles_later}
 use Rattle.tmem_effect.specs.declared.effect.Effect.{Effect}
+use Rattle.tmem_effect.proofs.Laws.{IsPrefix-trans}
 use Rattle.tmem_spine.specs.Views.{PassRoleView}
 use Rattle.tmem_tentative.specs.declared.attempt.Attempt.{Attempt}
 use Rattle.tmem_tree.specs.declared.settled.Settled.{Settled}
@@ -32,6 +33,13 @@ pub knows_again_elsewhere : (s : Store) (attempt : Attempt) (old mid new : PassR
 knows_again_elsewhere s attempt old mid new answer f more settles is =
     knows_more s.start s.opening s.program attempt old answer new (subst (λ (r : Result Settled Fault). committed_by r attempt.effect ≡ []) (sym is) refl)
     (settles_later s.start s.opening s.program attempt old mid answer new more settles)
+
+-- what is known after attempts that committed nothing, and after others that did not either
+pub knows_then : (old mid new : PassRoleView) → KnowsMore old mid → KnowsMore mid new → KnowsMore old new
+knows_then old mid new more other = record {
+  same = other.same ∙ ap (λ (v : PassRoleView). record v { known = new.known }) more.same;
+  begins = IsPrefix-trans old.known mid.known new.known more.begins other.begins;
+}
 
 -- a proposal that is settled after attempts that committed nothing
 pub proposal_later : (s : Store) (proposal : Proposal) (old mid new : PassRoleView) (given : Answer) → KnowsMore old mid → SettlesProposal s proposal mid given new → SettlesProposal s proposal old given new

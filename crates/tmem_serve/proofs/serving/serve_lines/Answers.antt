@@ -1,6 +1,7 @@
 use Rattle.std.proofs.Common.{inl, inr, ◌≡◌, ◌≤◌, ℕ, List, [], sym, ◌∙◌, subst, take, length, arith}
 use Rattle.std.specs.Io.KnownBytes.{Consumes}
 use Rattle.std.proofs.lemmas.List.{take_at}
+use Rattle.std.proofs.lemmas.Result.{err_from_is_err_and}
 use Rattle.tmem_desk.specs.Asking.{store}
 use Rattle.tmem_desk.specs.Held.{desk_view}
 use Rattle.tmem_serve.specs.Turns.{StopsInput}
@@ -140,3 +141,39 @@ first_of-requires g c =
     let long : length c.read_some.new.piece ≡ c.loop.piece.len = omega arith in
     let same : c.deref.result.now ≡ c.read_some.new.piece = c.deref.ensures.value ∙ take_at c.read_some.new.piece _ c.loop.piece.len long in
     subst (λ (xs : List ℕ). c.in-Ok.count ≤ length xs) (sym same) c.in-Ok.ensures.within
+
+pub returns-in-Err-clause-whole : goal.returns-in-Err-clause-whole
+returns-in-Err-clause-whole g c = c.in-Err.ensures.ended
+
+pub returns-in_err-piece-clause-served : goal.returns-in_err-piece-clause-served
+returns-in_err-piece-clause-served g c = rw (err_from_is_err_and c.from_residual.result c.from_residual.ensures.1).1 tt
+
+pub returns-in_err-piece-clause-whole : goal.returns-in_err-piece-clause-whole
+returns-in_err-piece-clause-whole g c = rw (err_from_is_err_and c.from_residual.result c.from_residual.ensures.1).1 tt
+
+pub returns-in_err-serve-in-Ok-clause-served : goal.returns-in_err-serve-in-Ok-clause-served
+returns-in_err-serve-in-Ok-clause-served g c = rw (err_from_is_err_and c.from_residual-in_err-serve-in-Ok.result c.from_residual-in_err-serve-in-Ok.ensures.1).1 tt
+
+pub returns-in_err-serve-in-Ok-clause-whole : goal.returns-in_err-serve-in-Ok-clause-whole
+returns-in_err-serve-in-Ok-clause-whole g c = rw (err_from_is_err_and c.from_residual-in_err-serve-in-Ok.result c.from_residual-in_err-serve-in-Ok.ensures.1).1 tt
+
+pub returns-in_err-flush-in-Ok-clause-served : goal.returns-in_err-flush-in-Ok-clause-served
+returns-in_err-flush-in-Ok-clause-served g c = rw (err_from_is_err_and c.from_residual-in_err-flush-in-Ok.result c.from_residual-in_err-flush-in-Ok.ensures.1).1 tt
+
+pub returns-in_err-flush-in-Ok-clause-whole : goal.returns-in_err-flush-in-Ok-clause-whole
+returns-in_err-flush-in-Ok-clause-whole g c = rw (err_from_is_err_and c.from_residual-in_err-flush-in-Ok.result c.from_residual-in_err-flush-in-Ok.ensures.1).1 tt
+
+pub returns-in_err-end-in-Err-clause-served : goal.returns-in_err-end-in-Err-clause-served
+returns-in_err-end-in-Err-clause-served g c = rw (err_from_is_err_and c.from_residual-in_err-end-in-Err.result c.from_residual-in_err-end-in-Err.ensures.1).1 tt
+
+pub returns-in_err-end-in-Err-clause-whole : goal.returns-in_err-end-in-Err-clause-whole
+returns-in_err-end-in-Err-clause-whole g c = rw (err_from_is_err_and c.from_residual-in_err-end-in-Err.result c.from_residual-in_err-end-in-Err.ensures.1).1 tt
+
+pub returns-in_err-flush-in-Err-clause-served : goal.returns-in_err-flush-in-Err-clause-served
+returns-in_err-flush-in-Err-clause-served g c = rw (err_from_is_err_and c.from_residual-in_err-flush-in-Err.result c.from_residual-in_err-flush-in-Err.ensures.1).1 tt
+
+pub returns-in_err-flush-in-Err-clause-whole : goal.returns-in_err-flush-in-Err-clause-whole
+returns-in_err-flush-in-Err-clause-whole g c = rw (err_from_is_err_and c.from_residual-in_err-flush-in-Err.result c.from_residual-in_err-flush-in-Err.ensures.1).1 tt
+
+pub returns-in-Err-clause-stopped : goal.returns-in-Err-clause-stopped
+returns-in-Err-clause-stopped g c = tt

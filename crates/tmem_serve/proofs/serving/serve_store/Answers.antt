@@ -1,5 +1,4 @@
-use Rattle.std.proofs.lemmas.Grind.{common_steps}
-use Rattle.std.proofs.Common.{arith, ℕ, List, None, option_map, inr, subst, refl, sym, ap, ◌≡◌, ◌∙◌}
+use Rattle.std.proofs.Common.{ℕ, List, None, option_map, inr, subst, refl, sym, ap, ◌≡◌, ◌∙◌}
 use Rattle.tmem_invariants.specs.Meanings.{IsSound}
 use Rattle.tmem_journal.specs.Held.{disk_of}
 use Rattle.tmem_opening.specs.Held.{opening_position}
@@ -80,4 +79,4 @@ returns-in-Err-serve_opened-clause-ended g c =
     inr (it, opens, kept, c.in-Err-serve_opened.ensures.stopped)
 
 pub returns-in-Ok-serve_opened-clause-whole : goal.returns-in-Ok-serve_opened-clause-whole
-returns-in-Ok-serve_opened-clause-whole g c = grind (arith, common_steps)
+returns-in-Ok-serve_opened-clause-whole g c = c.in-Ok-serve_opened.ensures.whole

@@ -1,6 +1,6 @@
-use Rattle.std.proofs.lemmas.Grind.{common_steps}
-use Rattle.std.proofs.Common.{arith, ℕ, List, sym, subst}
-use Rattle.tmem_tree.specs.Plans.{FitsSteps}
+use Rattle.std.proofs.Common.{ℕ, List, sym, subst}
+use Rattle.std.proofs.lemmas.Result.{err_from_is_err_and}
+use Rattle.tmem_tree.specs.Plans.{FitsSteps, FitsVariables}
 use Rattle.tmem_front.proofs.Laws.{knows_still}
 use Rattle.tmem_desk.specs.Asking.{store}
 use Rattle.tmem_desk.proofs.Laws.{handed}
@@ -36,5 +36,17 @@ returns-in-Err g c = record {
   knows = knows_again (store g.N.Naming.name.start g.N.StoreNaming.opening g.N.ProgramNaming.program g.N.ServedNaming.arities g.N.ServedNaming.always) c.args.ready.now.plan.tree c.args.pass.now c.loop.pass c.try_atomically.new.pass c.try_atomically.result c.in-Err.fault c.loop.invariant c.try_atomically.ensures.settled c.in-Err.is;
 }
 
+pub returns-in_err-flush_with_room-in-Err-Full-clause-settles : goal.returns-in_err-flush_with_room-in-Err-Full-clause-settles
+returns-in_err-flush_with_room-in-Err-Full-clause-settles g c = rw (err_from_is_err_and c.from_residual.result c.from_residual.ensures.1).1 tt
+
 pub try_atomically-requires-clause-variables : goal.try_atomically-requires-clause-variables
-try_atomically-requires-clause-variables g c = grind (arith, common_steps)
+try_atomically-requires-clause-variables g c = subst (λ (n : ℕ). FitsVariables n c.args.ready.now.plan) (sym c.args.self.now.front.now.over) c.args.ready.now.variables
+
+pub try_atomically-requires-clause-names : goal.try_atomically-requires-clause-names
+try_atomically-requires-clause-names g c = c.args.ready.now.names
+
+pub try_atomically-requires-clause-shapes : goal.try_atomically-requires-clause-shapes
+try_atomically-requires-clause-shapes g c = c.args.ready.now.shapes
+
+pub returns-in-Ok-clause-knows : goal.returns-in-Ok-clause-knows
+returns-in-Ok-clause-knows g c = tt
