@@ -63,10 +63,10 @@ none_is : (b : Bool) → one_if b ≡ 0 → b ≡ false
 none_is true h = cc
 none_is false h = refl
 
-below_if : (vars var : ℕ) → one_if (nat_le vars var) ≡ 0 → var < vars
+pub below_if : (vars var : ℕ) → one_if (nat_le vars var) ≡ 0 → var < vars
 below_if vars var h = let no : nat_le vars var ≡ false = none_is _ h in grind (arith, nat_tests)
 
-is_known : (b : Bool) → one_if (not b) ≡ 0 → b ≡ true
+pub is_known : (b : Bool) → one_if (not b) ≡ 0 → b ≡ true
 is_known true h = refl
 is_known false h = cc
 

@@ -5,7 +5,7 @@ use Rattle.tmem_tree.specs.Run.{register}
 use Rattle.tmem_tree.specs.declared.tx.Tx.TheVariants.{Step}
 use Rattle.tmem_tentative.specs.Eval.{eval_answered}
 use Rattle.tmem_tentative.specs.Logs.{out_of, run_state_of}
-use Rattle.tmem_tentative.proofs.EvalFits.{length-write}
+use Rattle.tmem_tentative.proofs.EvalFits.{length-write, below_if}
 use Rattle.tmem_tentative.proofs.PlaceLeaves.{leaf_leads, read_leads, out_is_stopped}
 use Rattle.tmem_tentative.proofs.walk_on.act.Goals as goal
 
@@ -33,3 +33,18 @@ returns-in-Retire-clause-names g c = grind (arith, length-without_name-le)
 
 pub call-requires-clause-given : goal.call-requires-clause-given
 call-requires-clause-given g c = grind (arith, common_steps)
+
+pub bounds-course-reg : goal.bounds-course-reg
+bounds-course-reg g c = below_if _ _ (rw c.in-Put.is at c.requires.may.registers)
+
+pub bounds-course-reg-in-Write : goal.bounds-course-reg-in-Write
+bounds-course-reg-in-Write g c = below_if _ _ (rw c.in-Write.is at c.requires.may.registers)
+
+pub read-requires : goal.read-requires
+read-requires g c = below_if _ _ (rw c.in-Read.is at c.requires.may.registers)
+
+pub put-requires : goal.put-requires
+put-requires g c none = omega (arith, rw c.in-Write.is at c.requires.may.writes)
+
+pub retire-requires : goal.retire-requires
+retire-requires g c new = omega (arith, rw c.in-Retire.is at c.requires.may.retires)
