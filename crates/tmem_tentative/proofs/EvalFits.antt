@@ -1,5 +1,5 @@
 -- How far the reads, the writes and the names of an evaluation may go.
-use Rattle.std.proofs.Common.{◌≡◌, ℕ, ℤ, ◌+◌, ◌<◌, ◌≤◌, Bool, true, false, List, [], ◌∷◌, ◌++◌, map, length, length-append, Option, Some, None, nat_eq, nat_le, not, cond, All, refl, sym, subst, arith}
+use Rattle.std.proofs.Common.{◌≡◌, ℕ, ℤ, ◌+◌, ◌<◌, ◌≤◌, Bool, true, false, List, [], ◌∷◌, ◌++◌, map, length, length-append, Option, Some, None, nat_eq, nat_le, not, ◌||◌, cond, All, refl, sym, subst, arith}
 use Rattle.std.proofs.lemmas.Bool.Decides.{nat_tests}
 use Rattle.std.proofs.lemmas.List.Elements.{All-push, All-head, All-tail}
 use Rattle.std.proofs.lemmas.Map.Keys.{IsDistinct-push}
@@ -63,10 +63,17 @@ none_is : (b : Bool) → one_if b ≡ 0 → b ≡ false
 none_is true h = cc
 none_is false h = refl
 
-below_if : (vars var : ℕ) → one_if (nat_le vars var) ≡ 0 → var < vars
+pub below_if : (vars var : ℕ) → one_if (nat_le vars var) ≡ 0 → var < vars
 below_if vars var h = let no : nat_le vars var ≡ false = none_is _ h in grind (arith, nat_tests)
 
-is_known : (b : Bool) → one_if (not b) ≡ 0 → b ≡ true
+left_none : (a b : Bool) → one_if (a || b) ≡ 0 → one_if a ≡ 0
+left_none true b h = h
+left_none false b h = refl
+
+pub below_either : (vars var : ℕ) (b : Bool) → one_if (nat_le vars var || b) ≡ 0 → var < vars
+below_either vars var b h = below_if vars var (left_none (nat_le vars var) b h)
+
+pub is_known : (b : Bool) → one_if (not b) ≡ 0 → b ≡ true
 is_known true h = refl
 is_known false h = cc
 

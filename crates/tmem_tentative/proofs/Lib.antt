@@ -3,12 +3,14 @@ mod CursorKept
 mod CursorStands
 mod EvalFits
 mod EvalLooks
+mod EvalParts
 mod EvalRuns
 mod EvalSeen
 mod EvalSeq
 mod HandedOutcomes
 mod MadeOutcomes
 mod OrElseLaws
+mod PlaceCalls
 mod PlaceChildren
 mod PlaceLeaves
 mod PlaceRoom

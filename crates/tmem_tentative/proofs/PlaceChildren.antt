@@ -1,9 +1,11 @@
 -- A run of a child, as a run of its tree.
-use Rattle.std.proofs.Common.{◌≡◌, ℕ, ℤ, ◌+◌, ◌<◌, ◌≤◌, Bool, false, List, [], ◌∷◌, length, get_or, cond, refl, sym, ap, ◌∙◌, subst, arith}
+use Rattle.std.proofs.Common.{◌≡◌, ℕ, ℤ, ◌+◌, ◌<◌, ◌≤◌, Bool, true, false, List, [], ◌∷◌, length, get_or, cond, refl, sym, ap, ◌∙◌, subst, arith}
+use Rattle.std.specs.declared.alloc.Global.{Global}
+use Rattle.std.specs.declared.boxed.Box.{Box}
 use Rattle.tmem_effect.specs.declared.effect.Effect.{Effect}
 use Rattle.tmem_tree.specs.declared.shape.Shape.{Shape}
 use Rattle.tmem_tree.specs.declared.tx.Tx.{Tx}
-use Rattle.tmem_tree.specs.declared.tx.Tx.TheVariants.{When', OrElse'}
+use Rattle.tmem_tree.specs.declared.tx.Tx.TheVariants.{OrElse, When', OrElse'}
 use Rattle.tmem_tree.specs.Limits.{depth, choices, count, is_write, is_check, is_retire, has_bad_register, has_bad_step, has_bad_arguments, lacks_shape}
 use Rattle.tmem_tree.specs.Run.{register, is_zero}
 use Rattle.tmem_tree.specs.StepAnswers.{StepMeanings}
@@ -11,10 +13,10 @@ use Rattle.tmem_tree.specs.Visited.{Ask}
 use Rattle.tmem_tentative.specs.declared.attempt.Attempt.{Attempt}
 use Rattle.tmem_tentative.specs.declared.save.Save.{Save}
 use Rattle.tmem_tentative.specs.Eval.{RunState, Taken, eval, else_eval}
-use Rattle.tmem_tentative.specs.Logs.{AreOf, Out, Stopped, Gave_way}
+use Rattle.tmem_tentative.specs.Logs.{AreOf, MayWalk, Out, Stopped, Gave_way}
 use Rattle.tmem_tentative.specs.Places.{Covers, Place, LeadsTo, place_of, with_more, IsLeaf, MayRunFrom, RunsTo, HasRoom, eval_on, eval_from, Enters, EntersChoice}
-use Rattle.tmem_tentative.proofs.PlaceRoom.{path_grows, when_then_room, when_other_room, second_room, first_room, first_leaves, child_leaves, leaf_start, leaf_leaves, leaf_path, leaf_depth}
-use Rattle.tmem_tentative.proofs.PlaceSaves.{EntersFirst, inside, joined}
+use Rattle.tmem_tentative.proofs.PlaceRoom.{path_grows, choice_saved, when_then_room, when_other_room, second_room, first_room, first_leaves, child_leaves, leaf_start, leaf_room, leaf_leaves, leaf_path, leaf_depth}
+use Rattle.tmem_tentative.proofs.PlaceSaves.{EntersFirst, enters_first, inside, joined}
 use Rattle.tmem_tentative.proofs.PlaceRuns.{with_left, in_child, child_leads, first_leads, retried_start, when_then, when_other, choice_first, choice_second}
 
 module _ (IsStated : StepMeanings → Type 0) (shapes : List Shape) (seen : Taken) where
@@ -148,7 +150,23 @@ module _ (IsStated : StepMeanings → Type 0) (shapes : List Shape) (seen : Take
           goes_on = λ m footprint reads path saves s. refl;
         }))
 
--- a leaf, whose effect had room
+-- a choice of which a run may go on, by its first branch
+pub enters_choice : {tx : Tx} (a b : Box Tx Global) (before : Place) (left : List ℕ) (saves : List Save) {arities : List ℕ} {invariants : List (List ℕ)} → tx ≡ OrElse a b → MayRunFrom arities invariants tx before → length saves ≡ length before.saves
+    → EntersChoice before.path (record { registers = before.registers; effect = before.effect }) before.saves true left saves → EntersFirst before left saves
+enters_choice a b before left saves is may = enters_first before left saves (choice_saved a b (subst (λ t. choices t ≤ length before.saves) is may.enough))
+
+-- a leaf
+pub leaf_may : {arities : List ℕ} {invariants : List (List ℕ)} {tx : Tx} (before : Attempt) {path : List ℕ} {saves : List Save} → MayRunFrom arities invariants tx (place_of before path saves) → IsLeaf tx → MayWalk arities invariants tx before.effect
+leaf_may {tx = tx} before {path} {saves} may leaf = record {
+  registers = may.registers;
+  steps = may.steps;
+  known = may.known;
+  writes = leaf_room is_write 64 (λ e. length e.writes) may.writes.0 path tx saves (length before.effect.writes) leaf may.writes.1;
+  checks = leaf_room is_check 8 (λ e. length e.names) may.names.0 path tx saves (length before.effect.names) leaf may.names.1;
+  retires = leaf_room is_retire 8 (λ e. length e.retired) may.retires.0 path tx saves (length before.effect.retired) leaf may.retires.1;
+}
+
+-- whose effect had room
 pub leaf_runs : {IsStated : StepMeanings → Type 0} {arities : List ℕ} {invariants : List (List ℕ)} {shapes : List Shape} {tx : Tx} (before after : Attempt) {path after_path : List ℕ} {saves : List Save} {seen : Taken} {out : Out} {left : List Bool}
     → MayRunFrom arities invariants tx (place_of before path saves) → IsLeaf tx → after_path ≡ path
     → length after.effect.writes ≤ length before.effect.writes + count is_write tx → length after.effect.names ≤ length before.effect.names + count is_check tx → length after.effect.retired ≤ length before.effect.retired + count is_retire tx → ((ask : Ask) → out ≡ Stopped ask → after.effect ≡ before.effect)

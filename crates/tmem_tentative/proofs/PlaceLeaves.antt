@@ -10,7 +10,7 @@ use Rattle.tmem_tree.specs.Visited.{Ask, Visit, Probe}
 use Rattle.tmem_tentative.specs.declared.attempt.Attempt.{Attempt}
 use Rattle.tmem_tentative.specs.declared.attempt.Probe.{Probe as Asked}
 use Rattle.tmem_tentative.specs.declared.flow.Flow as code
-use Rattle.tmem_tentative.specs.declared.flow.Flow.TheVariants.{Normal, Need, Test, Retry}
+use Rattle.tmem_tentative.specs.declared.flow.Flow.TheVariants.{Normal, Need, Test, Retry, Leave}
 use Rattle.tmem_tentative.specs.declared.save.Save.{Save}
 use Rattle.tmem_tentative.specs.Eval.{RunState, Taken, Goes, Stops, Looked, Lacks, Found, eval, eval_put, saw, read, seen_of, noted_of, before, look_first, looked, eval_checked, tested}
 use Rattle.tmem_tentative.specs.Logs.{Out, Went, Stopped, Gave_way, flow_at, out_of, taken_of, run_state_of}
@@ -29,6 +29,10 @@ insert-same (e ∷ es) k n h = on (nat_eq k e.0) (insert-same es k n) h where
 saw-same : (s : RunState) (k : ℕ) (n : ℤ) → look s.seen.reads k ≡ Some n → saw s k n ≡ s
 saw-same s k n h =
     ap (λ es. record { registers = s.registers; effect = s.effect; seen = record { reads = es; left = s.seen.left } }) (insert-same s.seen.reads k n h)
+
+-- a run that goes on has not been left
+pub normal_stays : (P : Type 0) → Normal ≡ Leave → P
+normal_stays P is = let no : ⊥ = cc in absurd no
 
 -- how a run has come out that asks for a variable, or for a test
 pub out_is_went : (f : code.Flow) (log : Attempt) (probe : Asked) → out_of f log probe ≡ Went → f ≡ Normal

@@ -2,16 +2,18 @@
 use Rattle.std.proofs.Common.{◌≡◌, ℕ, zero, suc, ◌+◌, ◌<◌, ◌≤◌, Bool, true, false, List, [], ◌∷◌, drop, length, refl, sym, ap, ◌∙◌, subst, arith, rules}
 use Rattle.std.specs.declared.vec.Vec.{Vec}
 use Rattle.std.specs.declared.alloc.Global.{Global}
+use Rattle.std.specs.declared.boxed.Box.{Box}
 use Rattle.tmem_effect.specs.declared.effect.Effect.{Effect}
 use Rattle.tmem_tree.specs.declared.tx.Tx.{Tx, Row_of-Tx, end_of-Tx, more_of-Tx}
-use Rattle.tmem_tree.specs.declared.tx.Tx.TheVariants.{Seq, When', OrElse'}
+use Rattle.tmem_tree.specs.declared.tx.Tx.TheVariants.{Seq, When, OrElse, When', OrElse'}
 use Rattle.tmem_tree.specs.declared.tx.Tx.TheVariants as tree
 use Rattle.tmem_tree.specs.declared.tx.Tx.TheBlock.{items-the_row-Tx}
 use Rattle.tmem_tree.specs.declared.tx.Tx.TheViews.{the_lemmas}
-use Rattle.tmem_tree.specs.Limits.{depth, count, count_all}
+use Rattle.tmem_tree.specs.Limits.{depth, choices, count, count_all, has_bad_register}
 use Rattle.tmem_tree.specs.Visited.{Ask}
 use Rattle.tmem_tree.proofs.Laws.{count_items, count-Seq}
 use Rattle.tmem_tentative.specs.declared.save.Save.{Save}
+use Rattle.tmem_tentative.proofs.EvalFits.{below_if}
 use Rattle.tmem_tentative.specs.Logs.{Out, Went, Stopped, Gave_way, Left}
 use Rattle.tmem_tentative.specs.Places.{HasRoom, AllHaveRoom, LeavesRoom, Enters, EntersChoice, IsLeaf, IsPathBehind, with_child}
 
@@ -25,6 +27,34 @@ path_grows Went d e child path h lt = h
 path_grows (Stopped ask) d e child path h lt = omega arith
 path_grows Gave_way d e child path h lt = h
 path_grows (Left how) d e child path h lt = h
+
+-- it is short enough where the depth is within that
+pub path_within : (out : Out) (d e : ℕ) (path : List ℕ) → IsPathBehind out d path → d ≤ e → IsPathBehind out e path
+path_within Went d e path h le = h
+path_within (Stopped ask) d e path h le = omega (arith, h, le)
+path_within Gave_way d e path h le = h
+path_within (Left how) d e path h le = h
+
+-- no branch of a tree is deeper than it
+pub within_then : (reg : ℕ) (a b : Box Tx Global) {limit : ℕ} → depth (When reg a b) ≤ limit → depth a.value ≤ limit
+within_then reg a b h = omega (arith, h)
+
+pub within_other : (reg : ℕ) (a b : Box Tx Global) {limit : ℕ} → depth (When reg a b) ≤ limit → depth b.value ≤ limit
+within_other reg a b h = omega (arith, h)
+
+pub within_first : (a b : Box Tx Global) {limit : ℕ} → depth (OrElse a b) ≤ limit → depth a.value ≤ limit
+within_first a b h = omega (arith, h)
+
+pub within_second : (a b : Box Tx Global) {limit : ℕ} → depth (OrElse a b) ≤ limit → depth b.value ≤ limit
+within_second a b h = omega (arith, h)
+
+-- there is a save for a choice
+pub choice_saved : (a b : Box Tx Global) {saves : ℕ} → choices (OrElse a b) ≤ saves → 0 < saves
+choice_saved a b h = omega (arith, h)
+
+-- the register of a When
+pub when_register : (reg : ℕ) (a b : Box Tx Global) → count has_bad_register (When reg a b) ≡ 0 → reg < 16
+when_register reg a b h = below_if 16 reg (omega (arith, h))
 
 module _ (test : Tx → Bool) (limit : ℕ) (size : Effect → ℕ) where
   -- the first from a place inside it, and the others from their starts
@@ -93,6 +123,10 @@ module _ (test : Tx → Bool) (limit : ℕ) (size : Effect → ℕ) where
   leaf_start rest (i ∷ path) (When' reg p a q b) saves n leaf h = absurd leaf
   leaf_start rest (i ∷ path) (OrElse' p a q b) saves n leaf h = absurd leaf
   leaf_start rest (i ∷ path) tx saves n leaf h = absurd h
+
+  -- that has as much room
+  pub leaf_room : (rest : ℕ) (path : List ℕ) (tx : Tx) (saves : List Save) (n : ℕ) → IsLeaf tx → HasRoom test limit size rest path tx saves n → n + count test tx ≤ limit
+  leaf_room rest path tx saves n leaf h = let h' : n + count test tx + rest ≤ limit = subst (λ l. HasRoom test limit size rest l tx saves n) (leaf_start rest path tx saves n leaf h) h in omega (arith, h')
 
   -- a When
   pub when_then_room : (rest reg : ℕ) (a b : Tx) (p q : _) (path : List ℕ) (start : ℕ) (left : List ℕ) (saves : List Save) (n : ℕ) → Enters path start 0 left → HasRoom test limit size rest path (When' reg p a q b) saves n → HasRoom test limit size rest left a saves n

@@ -1,25 +1,27 @@
 use Rattle.std.proofs.lemmas.Grind.{common_steps}
-use Rattle.std.proofs.Common.{ℕ, ◌+◌, ◌≤◌, arith, drop}
-use Rattle.tmem_tree.proofs.Laws.{count-Seq}
+use Rattle.std.proofs.Common.{◌≡◌, ℕ, ◌+◌, ◌≤◌, length, arith, rules, drop}
 use Rattle.tmem_tree.specs.Limits.{is_write, is_check, is_retire, has_bad_register, has_bad_step, has_bad_arguments, lacks_shape}
 use Rattle.tmem_tree.specs.Shapes.{names_of}
 use Rattle.tmem_tentative.specs.Logs.{run_state_of}
-use Rattle.tmem_tentative.proofs.EvalSeq.{eval-Seq}
+use Rattle.tmem_tentative.specs.declared.flow.Flow.TheVariants.{Normal}
+use Rattle.tmem_tentative.proofs.EvalParts.{none_at_start, within_at_start, evals_at_start, none_next, within_next, evals_next}
+use Rattle.tmem_tentative.proofs.PlaceRoom.{when_register}
 use Rattle.tmem_tentative.proofs.PlaceSeq.{here_is}
 use Rattle.tmem_tentative.proofs.walk.+walk.Goals as goal
 
 pub walk-loop-t-init : goal.walk-loop-t-init
 walk-loop-t-init g t c =
     let arities = g.S.StoredSteps.arities c.args.steps.now in
-    let given = c.args.given.now in record {
-      registers = grind (arith, count-Seq has_bad_register c.in-Seq.txs);
-      steps = grind (arith, count-Seq (has_bad_step arities) c.in-Seq.txs);
-      arguments = grind (arith, count-Seq (has_bad_arguments arities) c.in-Seq.txs);
-      known = grind (arith, count-Seq (lacks_shape (names_of given.shapes.now)) c.in-Seq.txs);
-      flow = λ m footprint stated of. grind (arith, eval-Seq m footprint given.reads.now.entries c.in-Seq.txs (run_state_of c.args.log.now (drop c.args.tests.now.used given.answers.now)));
-      writes = grind (arith, count-Seq is_write c.in-Seq.txs);
-      checks = grind (arith, count-Seq is_check c.in-Seq.txs);
-      retires = grind (arith, count-Seq is_retire c.in-Seq.txs);
+    let given = c.args.given.now in
+    let log = c.args.log.now in record {
+      registers = none_at_start c.in-Seq.txs c.in-Seq.is c.deref-t-items.ensures.value has_bad_register c.requires.registers;
+      steps = none_at_start c.in-Seq.txs c.in-Seq.is c.deref-t-items.ensures.value (has_bad_step arities) c.requires.steps.there;
+      arguments = none_at_start c.in-Seq.txs c.in-Seq.is c.deref-t-items.ensures.value (has_bad_arguments arities) c.requires.steps.given;
+      known = none_at_start c.in-Seq.txs c.in-Seq.is c.deref-t-items.ensures.value (lacks_shape (names_of given.shapes.now)) c.requires.known;
+      flow = λ m footprint stated of. evals_at_start c.in-Seq.txs c.in-Seq.is c.deref-t-items.ensures.value m footprint given.reads.now.entries (run_state_of log (drop c.args.tests.now.used given.answers.now));
+      writes = within_at_start c.in-Seq.txs c.in-Seq.is c.deref-t-items.ensures.value is_write (length log.effect.writes);
+      checks = within_at_start c.in-Seq.txs c.in-Seq.is c.deref-t-items.ensures.value is_check (length log.effect.names);
+      retires = within_at_start c.in-Seq.txs c.in-Seq.is c.deref-t-items.ensures.value is_retire (length log.effect.retired);
     }
 
 -- what one part, or two, may add
@@ -123,7 +125,53 @@ walk-returns-in-Retry-clause-retired g t c =
     rw c.in-OrElse.is (in_both _ _ _ _ _ _ (rw c.deref-in-OrElse.ensures at c.walk_first.ensures.retired) (rw c.deref-in-Retry.ensures at c.walk-in-Retry.ensures.retired))
 
 pub walk-loop-t-preserved : goal.walk-loop-t-preserved
-walk-loop-t-preserved g t c = grind (arith, common_steps)
+walk-loop-t-preserved g t c =
+    let arities = g.S.StoredSteps.arities c.args.steps.now in
+    let given = c.args.given.now in
+    let before = c.loop-t.invariant in
+    let log = c.walk.new.log in
+    let tests = c.walk.new.tests in
+    let here = here_is c.deref-t-items.result.now c.loop-t.t-index c.t-item.result c.loop-t-test.true c.t-item.is in
+    let normal : c.in_ok-flow-in-Seq.flow ≡ Normal = search rules in record {
+      registers = none_next here has_bad_register before.registers;
+      steps = none_next here (has_bad_step arities) before.steps;
+      arguments = none_next here (has_bad_arguments arities) before.arguments;
+      known = none_next here (lacks_shape (names_of given.shapes.now)) before.known;
+      flow = λ m footprint stated of. evals_next here m footprint given.reads.now.entries c.in_ok-flow-in-Seq.flow log tests.probe _ (run_state_of log (drop tests.used given.answers.now)) normal (before.flow m footprint stated of) (c.in_ok-flow-in-Seq.ensures.flow m footprint stated of);
+      writes = within_next here is_write _ _ _ _ before.writes c.walk.ensures.room;
+      checks = within_next here is_check _ _ _ _ before.checks c.walk.ensures.names;
+      retires = within_next here is_retire _ _ _ _ before.retires c.walk.ensures.retired;
+    }
 
 pub walk-returns-then-log-reg-eq0-clause-flow : goal.walk-returns-then-log-reg-eq0-clause-flow
 walk-returns-then-log-reg-eq0-clause-flow g t c = grind (arith, common_steps)
+
+pub walk-bounds-log-reg : goal.walk-bounds-log-reg
+walk-bounds-log-reg g t c = when_register c.in-When.reg c.in-When.then c.in-When.other (rw c.in-When.is at c.requires.registers)
+
+pub walk-loop-t-smaller : goal.walk-loop-t-smaller
+walk-loop-t-smaller g t c = omega (arith, c.loop-t-test.true)
+
+pub walk-bounds-t-items-t-index : goal.walk-bounds-t-items-t-index
+walk-bounds-t-items-t-index g t c = c.loop-t-test.true
+
+pub walk-returns-then-ne-clause-leaves : goal.walk-returns-then-ne-clause-leaves
+walk-returns-then-ne-clause-leaves g t c = c.in_ok-flow-in-Seq.ensures.leaves
+
+pub walk-returns-then-log-reg-eq0-clause-leaves : goal.walk-returns-then-log-reg-eq0-clause-leaves
+walk-returns-then-log-reg-eq0-clause-leaves g t c = c.walk-then-log-reg-eq0.ensures.leaves
+
+pub walk-returns-then-log-reg-eq0-clause-fault : goal.walk-returns-then-log-reg-eq0-clause-fault
+walk-returns-then-log-reg-eq0-clause-fault g t c = c.walk-then-log-reg-eq0.ensures.fault
+
+pub walk-returns-else-log-reg-eq0-clause-leaves : goal.walk-returns-else-log-reg-eq0-clause-leaves
+walk-returns-else-log-reg-eq0-clause-leaves g t c = c.walk-else-log-reg-eq0.ensures.leaves
+
+pub walk-returns-else-log-reg-eq0-clause-fault : goal.walk-returns-else-log-reg-eq0-clause-fault
+walk-returns-else-log-reg-eq0-clause-fault g t c = c.walk-else-log-reg-eq0.ensures.fault
+
+pub walk-returns-in-Retry-clause-leaves : goal.walk-returns-in-Retry-clause-leaves
+walk-returns-in-Retry-clause-leaves g t c = c.walk-in-Retry.ensures.leaves
+
+pub walk-returns-in-Retry-clause-fault : goal.walk-returns-in-Retry-clause-fault
+walk-returns-in-Retry-clause-fault g t c = c.walk-in-Retry.ensures.fault

@@ -1,17 +1,17 @@
 use Rattle.std.proofs.lemmas.Grind.{common_steps}
-use Rattle.std.proofs.Common.{◌≡◌, ◌+◌, ◌<◌, true, false, List, [], drop, get_or, length, length-drop, refl, sym, ap, ◌∙◌, arith, rules}
+use Rattle.std.proofs.Common.{◌≡◌, ◌+◌, ◌<◌, List, [], drop, get_or, length, length-drop, refl, sym, ap, ◌∙◌, arith, rules}
 use Rattle.std.proofs.lemmas.List.{drop_all, drop-drop, get_or-drop}
 use Rattle.tmem_effect.specs.declared.effect.Effect.{Effect}
 use Rattle.tmem_tree.specs.declared.tx.Tx.{Tx}
 use Rattle.tmem_tree.specs.declared.tx.Tx.TheFolds as folds
 use Rattle.tmem_tree.specs.Limits.{is_write}
 use Rattle.tmem_tentative.specs.declared.flow.Flow.TheVariants.{Normal, Retry}
-use Rattle.tmem_tentative.specs.Logs.{Went, Gave_way}
+use Rattle.tmem_tentative.specs.Logs.{Went}
 use Rattle.tmem_tentative.specs.Places.{place_at, taken_at, out_at}
-use Rattle.tmem_tentative.proofs.PlaceChildren.{child_may, child_runs, then_child, other_child, second_child, first_may as branch_may, first_runs, retried_child, leaf_runs}
-use Rattle.tmem_tentative.proofs.PlaceLeaves.{out_is_went, out_is_gave_way}
-use Rattle.tmem_tentative.proofs.PlaceRoom.{seq_from}
-use Rattle.tmem_tentative.proofs.PlaceSaves.{enters_first}
+use Rattle.tmem_tentative.proofs.PlaceCalls.{enters_as, called_may, called_runs, first_called_may, first_called_runs, retried_called, given_before}
+use Rattle.tmem_tentative.proofs.PlaceChildren.{then_child, other_child, second_child, enters_choice, leaf_may, leaf_runs}
+use Rattle.tmem_tentative.proofs.PlaceLeaves.{out_is_went}
+use Rattle.tmem_tentative.proofs.PlaceRoom.{path_within, within_then, within_other, within_first, within_second, choice_saved, when_register, seq_from}
 use Rattle.tmem_tentative.proofs.PlaceSeq.{enter_seq, first_may, all_run, next_left, part_runs, here_is}
 use Rattle.tmem_tentative.proofs.walk_on.+walk_on.Goals as goal
 
@@ -57,71 +57,63 @@ walk_on-walk_part-flow-requires g t c =
     let all : c.rest_of-t-items.result.now ≡ drop from txs.items = cc in
     let within : from + c.loop-i.i < length txs.items = omega (arith, c.loop-i-test.true, ap (λ (l : List Tx). length l) all, length-drop from txs.items) in
     let item : c.t-item.result ≡ get_or txs.items (from + c.loop-i.i) c.t-item.result = c.t-item.is ∙ ap (λ (l : List Tx). get_or l c.loop-i.i c.t-item.result) all ∙ get_or-drop from txs.items c.loop-i.i c.t-item.result in
-    λ κs le. (grind (arith, folds.the_lemmas, item, within), (search rules, first_may _ _ _ c.requires (rw here at c.loop-i.invariant.left)))
+    λ κs le. (grind (arith, folds.the_lemmas, item, within), (le, first_may _ _ _ c.requires (rw here at c.loop-i.invariant.left)))
 
 pub walk_on-walk_on-flow-requires : goal.walk_on-walk_on-flow-requires
 walk_on-walk_on-flow-requires g t c =
-    let child = then_child (g.S.StoredSteps.is_stated c.args.steps.now) c.args.plan.now.shapes (taken_at c.args.course.now) (rw (c.if-enter-eq0.true, c.branch_of.ensures) at c.enter.ensures) in
-    λ κs le. (search (rules, folds.the_lemmas), (search rules, rw c.deref-then-enter-eq0.ensures (child_may _ _ _ child (rw c.in-When.is at c.requires))))
+    let child = then_child (g.S.StoredSteps.is_stated c.args.steps.now) c.args.plan.now.shapes (taken_at c.args.course.now) (enters_as c.args.course.now.path c.enter.new.path c.enter.ensures c.branch_of.ensures c.if-enter-eq0.true) in
+    λ κs le. (search (rules, folds.the_lemmas), (le, called_may _ _ _ c.in-When.is c.deref-then-enter-eq0.ensures child c.requires))
 
 pub walk_on-returns-then-enter-eq0-clause-runs : goal.walk_on-returns-then-enter-eq0-clause-runs
 walk_on-returns-then-enter-eq0-clause-runs g t c =
-    rw (c.note-then-enter-eq0.ensures, c.in-When.is) (child_runs _ _ _ (then_child _ _ _ (rw (c.if-enter-eq0.true, c.branch_of.ensures) at c.enter.ensures)) (rw c.deref-then-enter-eq0.ensures at c.walk_on-flow.ensures.runs))
+    let child = then_child (g.S.StoredSteps.is_stated c.args.steps.now) c.args.plan.now.shapes (taken_at c.args.course.now) (enters_as c.args.course.now.path c.enter.new.path c.enter.ensures c.branch_of.ensures c.if-enter-eq0.true) in
+    called_runs _ _ _ c.in-When.is c.deref-then-enter-eq0.ensures child c.walk_on-flow.result c.walk_on-flow.new.course c.note-then-enter-eq0.ensures c.walk_on-flow.ensures.runs
 
 pub walk_on-walk_on-flow-requires-else-enter-eq0 : goal.walk_on-walk_on-flow-requires-else-enter-eq0
 walk_on-walk_on-flow-requires-else-enter-eq0 g t c =
-    let child = other_child (g.S.StoredSteps.is_stated c.args.steps.now) c.args.plan.now.shapes (taken_at c.args.course.now) (rw c.branch_of.ensures at c.enter.ensures) (λ is. c.if-enter-eq0.false is) in
-    λ κs le. (search (rules, folds.the_lemmas), (search rules, rw c.deref-else-enter-eq0.ensures (child_may _ _ _ child (rw c.in-When.is at c.requires))))
+    let child = other_child (g.S.StoredSteps.is_stated c.args.steps.now) c.args.plan.now.shapes (taken_at c.args.course.now) (enters_as c.args.course.now.path c.enter.new.path c.enter.ensures c.branch_of.ensures refl) (λ is. c.if-enter-eq0.false is) in
+    λ κs le. (search (rules, folds.the_lemmas), (le, called_may _ _ _ c.in-When.is c.deref-else-enter-eq0.ensures child c.requires))
 
 pub walk_on-returns-else-enter-eq0-clause-runs : goal.walk_on-returns-else-enter-eq0-clause-runs
 walk_on-returns-else-enter-eq0-clause-runs g t c =
-    rw (c.note-else-enter-eq0.ensures, c.in-When.is) (child_runs _ _ _ (other_child _ _ _ (rw c.branch_of.ensures at c.enter.ensures) (λ is. c.if-enter-eq0.false is)) (rw c.deref-else-enter-eq0.ensures at c.walk_on-flow-else-enter-eq0.ensures.runs))
+    let child = other_child (g.S.StoredSteps.is_stated c.args.steps.now) c.args.plan.now.shapes (taken_at c.args.course.now) (enters_as c.args.course.now.path c.enter.new.path c.enter.ensures c.branch_of.ensures refl) (λ is. c.if-enter-eq0.false is) in
+    called_runs _ _ _ c.in-When.is c.deref-else-enter-eq0.ensures child c.walk_on-flow-else-enter-eq0.result c.walk_on-flow-else-enter-eq0.new.course c.note-else-enter-eq0.ensures c.walk_on-flow-else-enter-eq0.ensures.runs
 
 pub walk_on-walk_on-flow-requires-then-not-enter_choice : goal.walk_on-walk_on-flow-requires-then-not-enter_choice
 walk_on-walk_on-flow-requires-then-not-enter_choice g t c =
-    let went : c.enter_choice.result ≡ false = search rules in
-    let child = second_child (g.S.StoredSteps.is_stated c.args.steps.now) c.args.plan.now.shapes (taken_at c.args.course.now) c.enter_choice.auto.saves (rw went at c.enter_choice.ensures) in
-    λ κs le. (search (rules, folds.the_lemmas), (search rules, rw c.deref-then-not-enter_choice.ensures (child_may _ _ _ child (rw c.in-OrElse.is at c.requires))))
+    let child = second_child (g.S.StoredSteps.is_stated c.args.steps.now) c.args.plan.now.shapes (taken_at c.args.course.now) c.enter_choice.auto.saves c.if-not-enter_choice.ensures in
+    λ κs le. (search (rules, folds.the_lemmas), (le, called_may _ _ _ c.in-OrElse.is c.deref-then-not-enter_choice.ensures child c.requires))
 
 pub walk_on-returns-then-not-enter_choice-clause-runs : goal.walk_on-returns-then-not-enter_choice-clause-runs
 walk_on-returns-then-not-enter_choice-clause-runs g t c =
-    let went : c.enter_choice.result ≡ false = search rules in
-    rw (c.note-then-not-enter_choice.ensures, c.in-OrElse.is) (child_runs _ _ _ (second_child _ _ _ c.enter_choice.auto.saves (rw went at c.enter_choice.ensures)) (rw c.deref-then-not-enter_choice.ensures at c.walk_on-flow-then-not-enter_choice.ensures.runs))
+    let child = second_child (g.S.StoredSteps.is_stated c.args.steps.now) c.args.plan.now.shapes (taken_at c.args.course.now) c.enter_choice.auto.saves c.if-not-enter_choice.ensures in
+    called_runs _ _ _ c.in-OrElse.is c.deref-then-not-enter_choice.ensures child c.walk_on-flow-then-not-enter_choice.result c.walk_on-flow-then-not-enter_choice.new.course c.note-then-not-enter_choice.ensures c.walk_on-flow-then-not-enter_choice.ensures.runs
 
 pub walk_on-walk_on-flow-requires-in-OrElse : goal.walk_on-walk_on-flow-requires-in-OrElse
 walk_on-walk_on-flow-requires-in-OrElse g t c =
-    let went : c.enter_choice.result ≡ true = search rules in
-    let may = rw c.in-OrElse.is at c.requires in
-    let first = enters_first (place_at c.args.course.now c.args.saves.now) c.enter_choice.new.path c.enter_choice.new.saves (omega (arith, may.enough)) c.enter_choice.auto.saves (rw went at c.enter_choice.ensures) in
-    λ κs le. (search (rules, folds.the_lemmas), (search rules, rw c.deref-in-OrElse.ensures (branch_may (g.S.StoredSteps.is_stated c.args.steps.now) c.args.plan.now.shapes (taken_at c.args.course.now) first may)))
+    let first = enters_choice c.in-OrElse.first c.in-OrElse.second (place_at c.args.course.now c.args.saves.now) c.enter_choice.new.path c.enter_choice.new.saves c.in-OrElse.is c.requires c.enter_choice.auto.saves c.if-not-enter_choice.ensures in
+    λ κs le. (search (rules, folds.the_lemmas), (le, first_called_may (g.S.StoredSteps.is_stated c.args.steps.now) c.args.plan.now.shapes (taken_at c.args.course.now) c.in-OrElse.first c.in-OrElse.second first c.deref-in-OrElse.ensures c.in-OrElse.is c.requires))
 
 pub walk_on-returns-then-ne-2-clause-runs : goal.walk_on-returns-then-ne-2-clause-runs
 walk_on-returns-then-ne-2-clause-runs g t c =
-    let went : c.enter_choice.result ≡ true = search rules in
-    let may = rw c.in-OrElse.is at c.requires in
-    let first = enters_first (place_at c.args.course.now c.args.saves.now) c.enter_choice.new.path c.enter_choice.new.saves (omega (arith, may.enough)) c.enter_choice.auto.saves (rw went at c.enter_choice.ensures) in
+    let first = enters_choice c.in-OrElse.first c.in-OrElse.second (place_at c.args.course.now c.args.saves.now) c.enter_choice.new.path c.enter_choice.new.saves c.in-OrElse.is c.requires c.enter_choice.auto.saves c.if-not-enter_choice.ensures in
     let others : c.walk_on-flow-in-OrElse.result ≡ Retry → ⊥ = search rules in
-    let some = λ (is : out_at c.walk_on-flow-in-OrElse.result c.walk_on-flow-in-OrElse.new.course ≡ Gave_way). others (out_is_gave_way c.walk_on-flow-in-OrElse.result c.walk_on-flow-in-OrElse.new.course.attempt c.walk_on-flow-in-OrElse.new.course.probe is) in
-    rw (c.note-then-ne-2.ensures, c.in-OrElse.is) (first_runs _ _ _ first some (rw c.deref-in-OrElse.ensures at c.walk_on-flow-in-OrElse.ensures.runs))
+    first_called_runs (g.S.StoredSteps.is_stated c.args.steps.now) c.args.plan.now.shapes (taken_at c.args.course.now) c.in-OrElse.first c.in-OrElse.second first c.deref-in-OrElse.ensures c.walk_on-flow-in-OrElse.result c.walk_on-flow-in-OrElse.new.course c.in-OrElse.is others c.note-then-ne-2.ensures c.walk_on-flow-in-OrElse.ensures.runs
 
 pub walk_on-walk_on-flow-requires-in-OrElse-2 : goal.walk_on-walk_on-flow-requires-in-OrElse-2
 walk_on-walk_on-flow-requires-in-OrElse-2 g t c =
-    let went : c.enter_choice.result ≡ true = search rules in
-    let may = rw c.in-OrElse.is at c.requires in
-    let first = enters_first (place_at c.args.course.now c.args.saves.now) c.enter_choice.new.path c.enter_choice.new.saves (omega (arith, may.enough)) c.enter_choice.auto.saves (rw went at c.enter_choice.ensures) in
+    let first = enters_choice c.in-OrElse.first c.in-OrElse.second (place_at c.args.course.now c.args.saves.now) c.enter_choice.new.path c.enter_choice.new.saves c.in-OrElse.is c.requires c.enter_choice.auto.saves c.if-not-enter_choice.ensures in
     let retried : c.walk_on-flow-in-OrElse.result ≡ Retry = search rules in
-    let child = retried_child _ _ _ first c.index-saves-0.result c.walk_on-flow-in-OrElse.auto.saves (rw (c.deref-in-OrElse.ensures, retried) at c.walk_on-flow-in-OrElse.ensures.runs) in
-    λ κs le. (search (rules, folds.the_lemmas), (search rules, rw (c.deref-in-OrElse-2.ensures, c.go_back.ensures.registers, c.go_back.ensures.effect) (child_may _ _ _ child may)))
+    let child = retried_called (g.S.StoredSteps.is_stated c.args.steps.now) c.args.plan.now.shapes (taken_at c.args.course.now) c.in-OrElse.first c.in-OrElse.second first c.deref-in-OrElse.ensures c.walk_on-flow-in-OrElse.result c.walk_on-flow-in-OrElse.new.course c.index-saves-0.result retried c.walk_on-flow-in-OrElse.auto.saves c.walk_on-flow-in-OrElse.ensures.runs c.go_back.ensures.registers c.go_back.ensures.effect in
+    λ κs le. (search (rules, folds.the_lemmas), (le, called_may _ _ _ c.in-OrElse.is c.deref-in-OrElse-2.ensures child c.requires))
 
 pub walk_on-returns-else-ne-2-clause-runs : goal.walk_on-returns-else-ne-2-clause-runs
 walk_on-returns-else-ne-2-clause-runs g t c =
-    let went : c.enter_choice.result ≡ true = search rules in
-    let may = rw c.in-OrElse.is at c.requires in
-    let first = enters_first (place_at c.args.course.now c.args.saves.now) c.enter_choice.new.path c.enter_choice.new.saves (omega (arith, may.enough)) c.enter_choice.auto.saves (rw went at c.enter_choice.ensures) in
+    let first = enters_choice c.in-OrElse.first c.in-OrElse.second (place_at c.args.course.now c.args.saves.now) c.enter_choice.new.path c.enter_choice.new.saves c.in-OrElse.is c.requires c.enter_choice.auto.saves c.if-not-enter_choice.ensures in
     let retried : c.walk_on-flow-in-OrElse.result ≡ Retry = search rules in
-    let child = retried_child _ _ _ first c.index-saves-0.result c.walk_on-flow-in-OrElse.auto.saves (rw (c.deref-in-OrElse.ensures, retried) at c.walk_on-flow-in-OrElse.ensures.runs) in
+    let child = retried_called (g.S.StoredSteps.is_stated c.args.steps.now) c.args.plan.now.shapes (taken_at c.args.course.now) c.in-OrElse.first c.in-OrElse.second first c.deref-in-OrElse.ensures c.walk_on-flow-in-OrElse.result c.walk_on-flow-in-OrElse.new.course c.index-saves-0.result retried c.walk_on-flow-in-OrElse.auto.saves c.walk_on-flow-in-OrElse.ensures.runs c.go_back.ensures.registers c.go_back.ensures.effect in
     let reads : c.go_back.new.log.reads ≡ c.args.course.now.attempt.reads = c.go_back.ensures.reads ∙ c.walk_on-flow-in-OrElse.ensures.reads in
-    rw (c.note-in-OrElse.ensures, c.in-OrElse.is) (child_runs _ _ _ child (rw (reads, c.deref-in-OrElse-2.ensures, c.go_back.ensures.registers, c.go_back.ensures.effect) at c.walk_on-flow-in-OrElse-2.ensures.runs))
+    called_runs _ _ _ c.in-OrElse.is c.deref-in-OrElse-2.ensures child c.walk_on-flow-in-OrElse-2.result c.walk_on-flow-in-OrElse-2.new.course c.note-in-OrElse.ensures (given_before c.args.course.now.attempt c.go_back.new.log reads c.walk_on-flow-in-OrElse-2.ensures.runs)
 
 pub walk_on-returns-in_default-clause-runs : goal.walk_on-returns-in_default-clause-runs
 walk_on-returns-in_default-clause-runs g t c =
@@ -133,3 +125,46 @@ walk_part-returns-then-is_leaf-clause-runs g t c =
 
 pub walk_on-overflow_add-from : goal.walk_on-overflow_add-from
 walk_on-overflow_add-from g t c = grind (arith, common_steps)
+
+pub walk_on-branch_of-requires : goal.walk_on-branch_of-requires
+walk_on-branch_of-requires g t c = when_register c.in-When.reg c.in-When.then c.in-When.other (rw c.in-When.is at c.requires.registers)
+
+pub walk_on-note-requires : goal.walk_on-note-requires
+walk_on-note-requires g t c =
+    let here = here_is c.rest_of-t-items.result.now c.loop-i.i c.t-item.result c.loop-i-test.true c.t-item.is in
+    path_within _ _ _ _ c.walk_part-flow.ensures.runs.path (first_may _ _ _ c.requires (rw here at c.loop-i.invariant.left)).deep
+
+pub walk_on-note-requires-then-enter-eq0 : goal.walk_on-note-requires-then-enter-eq0
+walk_on-note-requires-then-enter-eq0 g t c =
+    path_within _ _ _ _ c.walk_on-flow.ensures.runs.path (rw c.deref-then-enter-eq0.ensures (within_then c.in-When.reg c.in-When.then c.in-When.other (rw c.in-When.is at c.requires.deep)))
+
+pub walk_on-note-requires-else-enter-eq0 : goal.walk_on-note-requires-else-enter-eq0
+walk_on-note-requires-else-enter-eq0 g t c =
+    path_within _ _ _ _ c.walk_on-flow-else-enter-eq0.ensures.runs.path (rw c.deref-else-enter-eq0.ensures (within_other c.in-When.reg c.in-When.then c.in-When.other (rw c.in-When.is at c.requires.deep)))
+
+pub walk_on-note-requires-then-not-enter_choice : goal.walk_on-note-requires-then-not-enter_choice
+walk_on-note-requires-then-not-enter_choice g t c =
+    path_within _ _ _ _ c.walk_on-flow-then-not-enter_choice.ensures.runs.path (rw c.deref-then-not-enter_choice.ensures (within_second c.in-OrElse.first c.in-OrElse.second (rw c.in-OrElse.is at c.requires.deep)))
+
+pub walk_on-note-requires-then-ne-2 : goal.walk_on-note-requires-then-ne-2
+walk_on-note-requires-then-ne-2 g t c =
+    path_within _ _ _ _ c.walk_on-flow-in-OrElse.ensures.runs.path (rw c.deref-in-OrElse.ensures (within_first c.in-OrElse.first c.in-OrElse.second (rw c.in-OrElse.is at c.requires.deep)))
+
+pub walk_on-note-requires-in-OrElse : goal.walk_on-note-requires-in-OrElse
+walk_on-note-requires-in-OrElse g t c =
+    path_within _ _ _ _ c.walk_on-flow-in-OrElse-2.ensures.runs.path (rw c.deref-in-OrElse-2.ensures (within_second c.in-OrElse.first c.in-OrElse.second (rw c.in-OrElse.is at c.requires.deep)))
+
+pub walk_part-act-requires : goal.walk_part-act-requires
+walk_part-act-requires g t c = record { leaf = c.is_leaf.ensures.0 c.if-is_leaf.true; may = leaf_may c.args.course.now.attempt c.requires (c.is_leaf.ensures.0 c.if-is_leaf.true) }
+
+pub walk_on-loop-i-smaller : goal.walk_on-loop-i-smaller
+walk_on-loop-i-smaller g t c = omega (arith, c.loop-i-test.true)
+
+pub walk_on-bounds-t-items-i : goal.walk_on-bounds-t-items-i
+walk_on-bounds-t-items-i g t c = c.loop-i-test.true
+
+pub walk_on-enter_choice-requires : goal.walk_on-enter_choice-requires
+walk_on-enter_choice-requires g t c = choice_saved c.in-OrElse.first c.in-OrElse.second (rw c.in-OrElse.is at c.requires.enough)
+
+pub walk_on-slice_bounds-walk_on-count : goal.walk_on-slice_bounds-walk_on-count
+walk_on-slice_bounds-walk_on-count g t c = rw c.enter_choice.auto.saves (choice_saved c.in-OrElse.first c.in-OrElse.second (rw c.in-OrElse.is at c.requires.enough))
