@@ -3,3 +3,4 @@ mod Distinct
 pub mod Laws
 mod Levels
 mod Shown
+mod Sizes

@@ -1,13 +1,16 @@
-use Rattle.std.proofs.Common.{◌≡◌, ◌∷◌, [], ℕ, List, map, IfOk, codes, refl, sym, ap, ◌∙◌, subst, arith, rules, tests}
+use Rattle.std.proofs.Common.{◌≡◌, ◌∷◌, [], ◌++◌, ℕ, map, IfOk, IfErr, codes, refl, sym, ap, ◌∙◌, subst, arith, rules, tests}
 use Rattle.std.proofs.lemmas.Bool.Decides.{nat_tests}
 use borrow.Author.Tests.{ltb-true}
 use Rattle.std.proofs.lemmas.List.{take_all}
+use Rattle.std.proofs.lemmas.List.Elements.{All-push, All-same}
 use Rattle.serde_json.specs.View.{view}
 use Rattle.tmem_tree.specs.declared.tx.Tx.{Tx}
+use Rattle.tmem_forms.specs.Errors.{Refuses}
 use Rattle.tmem_forms.specs.TxForms.{IsByte, IsTx, TxInRange, tx_form, natural, array_of, tagged}
-use Rattle.tmem_forms.proofs.ArrayForms.{three_same, view_of_two, view_of_three, length-array, view_of_one}
+use Rattle.tmem_forms.proofs.ArrayForms.{three_same, view_of_two, view_of_three, length-array, view_of_only, map_more}
 use Rattle.tmem_forms.proofs.Laws.{passed_on, NoTx, two_same, view_of_array, no_items_at, items_of_body}
 use Rattle.tmem_forms.proofs.Levels.{IsTx-OrElse, IsTx-When, IsTx-Seq, no_or_else, no_when, no_seq, no_tx_of_members, tagged_as}
+use Rattle.tmem_forms.proofs.Sizes.{falls_to_item, falls_to_member}
 use Rattle.tmem_forms.proofs.tx.+tx.Goals as goal
 use Rattle.tmem_forms.proofs.tx.+tx.Goals.{or_else_of-in_default-as_slice-via-then-as_slice-lt2, or_else_of-in_default-as_slice-via-else-as_slice-lt2+else-this-lt3, when_of-in_default-as_slice-via-then-as_slice-lt3, when_of-in_default-as_slice-via-else-as_slice-lt3+else-this-lt4}
 
@@ -94,6 +97,14 @@ seq_of-returns-in_err-tx_of-clause-refused t c =
     (λ tx fits form. none tx (record { form = form; in_range = fits })) txs all
     (items_of_body c.args.body.now c.in-Array.items items (map tx_form txs) c.in-Array.is c.deref-item-items.ensures.value is)))
 
+pub seq_of-loop-item-preserved : goal.seq_of-loop-item-preserved
+seq_of-loop-item-preserved t c =
+    let is = c.in_ok-tx_of.ensures.ok in
+    record {
+      read = map_more tx_form view c.loop-item.row.items c.push.new.self.items c.in_ok-tx_of.field-0 c.deref-item-items.result.now c.loop-item.item-index c.item-item.result c.loop-item-test.true c.item-item.is is.form c.loop-item.invariant.read c.in_ok-push.ensures.items;
+      in_range = All-same TxInRange c.push.new.self.items (c.loop-item.row.items ++ c.in_ok-tx_of.field-0 ∷ []) c.in_ok-push.ensures.items (All-push TxInRange c.loop-item.row.items c.in_ok-tx_of.field-0 c.loop-item.invariant.in_range is.in_range);
+    }
+
 pub seq_of-returns-clause-ok : goal.seq_of-returns-clause-ok
 seq_of-returns-clause-ok t c =
     let items = c.deref-item-items.result.now in
@@ -103,11 +114,32 @@ seq_of-returns-clause-ok t c =
 
 pub tx_of-returns-in-Some-clause-ok : goal.tx_of-returns-in-Some-clause-ok
 tx_of-returns-in-Some-clause-ok t c =
-    let is : view c.args.value.now ≡ tagged c.as_str-in-Some.result.now (view c.in-Some.body.now) =
-    ap view c.in-Object.is ∙ view_of_one c.in-Object.members c.in-Some.key.now c.in-Some.body.now c.next.new.self (sym c.iter.ensures.rest ∙ c.in-Some.ensures.steps) (sym c.len.ensures.len ∙ c.if-len-ne1.false)
-    ∙ ap (λ (k : List ℕ). tagged k (view c.in-Some.body.now)) (sym c.as_str-in-Some.ensures.value) in
+    let is = view_of_only c.args.value.now c.in-Object.members c.in-Some.key.now c.in-Some.body.now c.next.new.self c.as_str-in-Some.result.now c.in-Object.is (sym c.iter.ensures.rest ∙ c.in-Some.ensures.steps) (sym c.len.ensures.len ∙ c.if-len-ne1.false) c.as_str-in-Some.ensures.value in
     subst (λ d. IfOk c.tx_of_member.result (λ tx. IsTx tx d)) (sym is) c.tx_of_member.ensures.ok
+
+pub tx_of-returns-in-Some-clause-refused : goal.tx_of-returns-in-Some-clause-refused
+tx_of-returns-in-Some-clause-refused t c =
+    let is = view_of_only c.args.value.now c.in-Object.members c.in-Some.key.now c.in-Some.body.now c.next.new.self c.as_str-in-Some.result.now c.in-Object.is (sym c.iter.ensures.rest ∙ c.in-Some.ensures.steps) (sym c.len.ensures.len ∙ c.if-len-ne1.false) c.as_str-in-Some.ensures.value in
+    subst (λ d. IfErr c.tx_of_member.result (λ e. Refuses e (NoTx d))) (sym is) c.tx_of_member.ensures.refused
 
 pub tx_of-returns-then-len-ne1-clause-refused : goal.tx_of-returns-then-len-ne1-clause-refused
 tx_of-returns-then-len-ne1-clause-refused t c =
     subst (λ v. NoTx (view v)) (sym c.in-Object.is) (no_tx_of_members c.in-Object.members (λ one. c.if-len-ne1.true (c.len.ensures.len ∙ one)))
+
+pub or_else_of-tx_of-requires : goal.or_else_of-tx_of-requires
+or_else_of-tx_of-requires t c = (falls_to_item c.args.body.now c.in-Array.items c.as_slice.result.now 0 c.left-item.result t c.in-Array.is c.as_slice.ensures.value (omega (arith, c.in-len2.len_at_least)) c.left-item.is c.decreases, tt)
+
+pub or_else_of-tx_of-requires-2 : goal.or_else_of-tx_of-requires-2
+or_else_of-tx_of-requires-2 t c = (falls_to_item c.args.body.now c.in-Array.items c.as_slice.result.now 1 c.right-item.result t c.in-Array.is c.as_slice.ensures.value (omega (arith, c.in-len2.len_at_least)) c.right-item.is c.decreases, tt)
+
+pub when_of-tx_of-requires : goal.when_of-tx_of-requires
+when_of-tx_of-requires t c = (falls_to_item c.args.body.now c.in-Array.items c.as_slice.result.now 1 c.then-item.result t c.in-Array.is c.as_slice.ensures.value (omega (arith, c.in-len3.len_at_least)) c.then-item.is c.decreases, tt)
+
+pub when_of-tx_of-requires-2 : goal.when_of-tx_of-requires-2
+when_of-tx_of-requires-2 t c = (falls_to_item c.args.body.now c.in-Array.items c.as_slice.result.now 2 c.other-item.result t c.in-Array.is c.as_slice.ensures.value (omega (arith, c.in-len3.len_at_least)) c.other-item.is c.decreases, tt)
+
+pub seq_of-tx_of-requires : goal.seq_of-tx_of-requires
+seq_of-tx_of-requires t c = (falls_to_item c.args.body.now c.in-Array.items c.deref-item-items.result.now c.loop-item.item-index c.item-item.result t c.in-Array.is c.deref-item-items.ensures.value c.loop-item-test.true c.item-item.is c.decreases, tt)
+
+pub tx_of-tx_of_member-requires : goal.tx_of-tx_of_member-requires
+tx_of-tx_of_member-requires t c = (falls_to_member c.args.value.now c.in-Object.members c.in-Some.key.now c.in-Some.body.now c.next.new.self t c.in-Object.is (sym c.iter.ensures.rest ∙ c.in-Some.ensures.steps) c.decreases, tt)
