@@ -1,2 +1,3 @@
 mod EventForms
+mod Items
 mod Members
