@@ -1,9 +1,9 @@
 -- Where a line ends in what is held.
-use Rattle.std.proofs.Common.{◌≡◌, ◌≢◌, ℕ, ◌+◌, ◌<◌, ◌≤◌, ◌==◌, Bool, true, false, List, [], ◌∷◌, ◌++◌, length, get_or, take, drop, append_assoc, refl, ap, sym, ◌∙◌, subst, arith, length-append}
-use Rattle.std.specs.Prelude.{MatchBool, Option, Some, slice_range, ◌-◌}
+use Rattle.std.proofs.Common.{◌≡◌, ◌≢◌, ℕ, ◌+◌, ◌<◌, ◌≤◌, ◌==◌, Bool, true, false, List, [], ◌∷◌, ◌++◌, length, get_or, take, drop, append_assoc, refl, ap, sym, ◌∙◌, subst, arith, length-append, Vec, Global}
+use Rattle.std.specs.Prelude.{MatchBool, Option, Some, None, slice_range, vec_len, ◌-◌}
 use Rattle.memchr.specs.Find.{IsFirstByte, is_byte}
 use Rattle.std.proofs.lemmas.Bool.Decides.{nat_tests}
-use Rattle.std.proofs.lemmas.List.{take-append-drop, drop_more, length-take-le, get_or-take, append-nil, drop-drop, take_rest}
+use Rattle.std.proofs.lemmas.List.{take-append-drop, drop_more, length-take-le, get_or-take, append-nil, drop-drop, drop_all, take_rest}
 use Rattle.std.proofs.lemmas.List.Elements.{All-append, All-from_get_or}
 use Rattle.tmem_lines.specs.Lines.{line, IsUnbroken, IsLongLine, IsForgotten, HoldsRestOf, IsCutOff}
 use Rattle.tmem_lines.specs.Views.{LinesView}
@@ -22,6 +22,10 @@ unbroken_before held at within none =
     let early : i < at = omega (arith, below, length-take-le at held within) in
     let same : get_or held i 0 ≡ 10 = sym (get_or-take at held i 0 early) ∙ is in
     none i early (grind (arith, nat_tests)))
+
+-- none stands anywhere, where there is no first one
+unbroken_all : (held : List ℕ) → IsFirstByte (is_byte 10) held None → IsUnbroken held
+unbroken_all held none = All-from_get_or (λ (b : ℕ). b ≢ 10) held 0 (λ i below is. none i (omega arith) below (grind (arith, nat_tests)))
 
 -- a line that ends in what is held, whose beginning may be forgotten
 pub cut_off : (b : Bool) (held first rest text : List ℕ) (new : LinesView) → held ≡ line first ++ rest → IsUnbroken first → HoldsRestOf new rest
@@ -91,6 +95,16 @@ found_in xs bytes next at r h same is =
     let there = subst (λ (o : Option ℕ). IsFirstByte (is_byte 10) (take (length xs - next) (drop next xs)) o) is h in
     let here = subst (λ (hay : List ℕ). IsFirstByte (is_byte 10) hay (Some at)) (take_rest xs next) there in
     found bytes next at (subst (λ (l : List ℕ). IsFirstByte (is_byte 10) (drop next l) (Some at)) same here)
+
+pub none_in : (xs bytes : List ℕ) (next : ℕ) (r : Option ℕ) → IsFirstByte (is_byte 10) (take (length xs - next) (drop next xs)) r → xs ≡ bytes → r ≡ None → IsUnbroken (drop next bytes)
+none_in xs bytes next r h same is =
+    let there = subst (λ (o : Option ℕ). IsFirstByte (is_byte 10) (take (length xs - next) (drop next xs)) o) is h in
+    let here = subst (λ (hay : List ℕ). IsFirstByte (is_byte 10) hay None) (take_rest xs next) there in
+    unbroken_all (drop next bytes) (subst (λ (l : List ℕ). IsFirstByte (is_byte 10) (drop next l) None) same here)
+
+-- behind all bytes stands nothing
+pub nothing_left : (bytes : Vec ℕ Global) (n : ℕ) → n ≡ vec_len bytes → [] ≡ drop n bytes.items
+nothing_left bytes n all = sym (drop_all n bytes.items (omega (arith, all, bytes.ok.0)))
 
 -- a line that is not too long is that which is held
 pub cut_short : (b : Bool) (first text : List ℕ) (new : LinesView) → b ≡ false → (bytes : List ℕ) × IsCutOff text bytes new × MatchBool b (IsLongLine bytes) (bytes ≡ first) → IsCutOff text first new

@@ -1,8 +1,8 @@
 use Rattle.std.proofs.Common.{◌≤◌, ◌<◌, ◌+◌, ℕ, drop, false, length, sym, subst, refl}
 use Rattle.std.specs.Prelude.{slice_range}
-use Rattle.tmem_lines.specs.Lines.{HoldsRestOf}
+use Rattle.tmem_lines.specs.Lines.{HoldsRestOf, IsUnbroken}
 use Rattle.tmem_lines.specs.Views.{LinesView}
-use Rattle.tmem_lines.proofs.Cutting.{found_in, cut_off, cut_short, cut_long}
+use Rattle.tmem_lines.proofs.Cutting.{found_in, none_in, cut_off, cut_short, cut_long}
 use Rattle.tmem_lines.proofs.lines.Lines.cut.Goals as goal
 
 pub returns-clause-line : goal.returns-clause-line
@@ -30,3 +30,8 @@ returns-then-is_long-clause-long c _ text stands =
     let held = subst (λ (v : LinesView). HoldsRestOf v text) (sym c.self.view_is) stands in
     cut_long inside.is_long first text new (λ is. subst (λ (n : ℕ). 65536 < n) (sym f.2) (c.is_too_long-is_long.ensures.long c.if-is_long.true is))
     (cut_off inside.is_long (drop inside.next bytes) first (drop (inside.next + at + 1) bytes) text new f.0 f.1 refl held)
+
+pub forget_a_long_one-requires : goal.forget_a_long_one-requires
+forget_a_long_one-requires c =
+    let inside = c.self.inside in
+    subst (λ (v : LinesView). IsUnbroken v.rest) c.self.view_is (none_in c.deref.result.now inside.bytes.items inside.next c.memchr.result c.memchr.ensures c.deref.ensures.value c.in_default.is)
