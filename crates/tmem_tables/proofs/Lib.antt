@@ -1,3 +1,4 @@
+mod Judged
 mod Shown
 mod Tested
 mod Touching
