@@ -1,3 +1,5 @@
+mod Judged
+mod Shown
 pub mod Sizes
 mod Tested
 pub mod Totals
