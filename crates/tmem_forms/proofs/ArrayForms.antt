@@ -1,7 +1,6 @@
 -- An array's values, one by one.
-use Rattle.std.proofs.Common.{◌≡◌, ℕ, suc, ◌+◌, ◌<◌, List, [], ◌∷◌, ◌++◌, length, get_or, map, take, Option, Some, Bor, Vec, BTreeMap, String, Global, string_bytes, refl, sym, ap, ◌∙◌, arith}
+use Rattle.std.proofs.Common.{◌≡◌, ℕ, suc, List, [], ◌∷◌, length, get_or, Option, Some, Bor, Vec, BTreeMap, String, Global, string_bytes, refl, sym, ap, ◌∙◌, arith}
 use Rattle.std.specs.Option.{option_map}
-use Rattle.std.proofs.lemmas.List.{map-append, take_more}
 use Rattle.serde_json.proofs.Views.{view-Object}
 use Rattle.serde_json.specs.Data.{Data, array, object}
 use Rattle.serde_json.specs.Find.{as_array}
@@ -63,10 +62,3 @@ view_of_one m k b rest is one = view-Object m ∙ one_member m.entries k b rest 
 
 pub view_of_only : (value : Value) (m : BTreeMap (String Global) Value) (k : String Global) (b : Value) (rest : List (String Global × Value)) (key : List ℕ) → value ≡ Object m → m.entries ≡ (k, b) ∷ rest → length m.entries ≡ 1 → key ≡ string_bytes k → view value ≡ tagged key (view b)
 view_of_only value m k b rest key is first one same = ap view is ∙ view_of_one m k b rest first one ∙ ap (λ (l : List ℕ). tagged l (view b)) (sym same)
-
--- one more item was read
-pub map_more : {X Y D : Type 0} (f : X → D) (h : Y → D) (xs ys : List X) (x : X) (vs : List Y) (i : ℕ) (v : Y) → i < length vs → v ≡ get_or vs i v → h v ≡ f x → map f xs ≡ map h (take i vs) → ys ≡ xs ++ x ∷ [] → map f ys ≡ map h (take (i + 1) vs)
-map_more f h xs ys x vs i v within at same so_far pushed =
-    ap (map f) pushed ∙ map-append f xs (x ∷ []) ∙ ap (λ l. l ++ f x ∷ []) so_far
-    ∙ ap (λ d. map h (take i vs) ++ d ∷ []) (sym same ∙ ap h at)
-    ∙ sym (map-append h (take i vs) (get_or vs i v ∷ [])) ∙ ap (map h) (sym (take_more vs i v within))

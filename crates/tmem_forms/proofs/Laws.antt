@@ -1,7 +1,8 @@
 -- Facts about forms and refusals alone: arrays of values, keys and members.
-use Rattle.std.proofs.Common.{◌≡◌, ◌≢◌, ℕ, zero, suc, ◌<◌, false, bytes_eq, List, [], ◌∷◌, length, get_or, map, All, Vec, Global, Result, Ok, Err, IfErr, sym, ap, ◌∙◌, subst, arith}
+use Rattle.std.proofs.Common.{◌≡◌, ◌≢◌, ℕ, zero, suc, ◌+◌, ◌<◌, false, bytes_eq, List, [], ◌∷◌, ◌++◌, length, get_or, map, take, All, Vec, Global, Result, Ok, Err, IfErr, sym, ap, ◌∙◌, subst, arith}
 use Rattle.std.specs.Result.{IsErrAnd}
 use Rattle.std.proofs.lemmas.Bool.{false≢true}
+use Rattle.std.proofs.lemmas.List.{map-append, take_more}
 use Rattle.std.proofs.lemmas.List.Elements.{All-head, All-tail}
 use Rattle.std.proofs.lemmas.Slice.Eq.{bytes_eq-Decides}
 use Rattle.serde_json.proofs.Views.{view-Array}
@@ -71,3 +72,10 @@ passed_on P Q (Err y) e same refused more = subst (λ d. Refuses d Q) (sym same)
 -- an object has one list of members
 pub same_members : (ms ns : Members) → object ms ≡ object ns → ms ≡ ns
 same_members ms ns same = cc
+
+-- one more item was read
+pub map_more : {X Y D : Type 0} (f : X → D) (h : Y → D) (xs ys : List X) (x : X) (vs : List Y) (i : ℕ) (v : Y) → i < length vs → v ≡ get_or vs i v → h v ≡ f x → map f xs ≡ map h (take i vs) → ys ≡ xs ++ x ∷ [] → map f ys ≡ map h (take (i + 1) vs)
+map_more f h xs ys x vs i v within at same so_far pushed =
+    ap (map f) pushed ∙ map-append f xs (x ∷ []) ∙ ap (λ l. l ++ f x ∷ []) so_far
+    ∙ ap (λ d. map h (take i vs) ++ d ∷ []) (sym same ∙ ap h at)
+    ∙ sym (map-append h (take i vs) (get_or vs i v ∷ [])) ∙ ap (map h) (sym (take_more vs i v within))

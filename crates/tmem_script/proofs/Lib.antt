@@ -1,3 +1,3 @@
 mod EventForms
-mod Items
 mod Members
+mod NoArray

@@ -2,8 +2,8 @@ use Rattle.std.proofs.Common.{◌≡◌, ℕ, List, [], ◌∷◌, ◌++◌, map
 use Rattle.std.proofs.lemmas.List.Elements.{All-push, All-same}
 use Rattle.serde_json.specs.View.{view, items_view}
 use Rattle.tmem_forms.specs.TxForms.{IsByte, natural, array_of}
-use Rattle.tmem_forms.proofs.ArrayForms.{items_found, map_more}
-use Rattle.tmem_forms.proofs.Laws.{passed_on, no_items_at}
+use Rattle.tmem_forms.proofs.ArrayForms.{items_found}
+use Rattle.tmem_forms.proofs.Laws.{passed_on, map_more, no_items_at}
 use Rattle.tmem_forms.proofs.pieces.registers_of.Goals as goal
 
 pub returns-in_err-byte_of-clause-refused : goal.returns-in_err-byte_of-clause-refused

@@ -7,8 +7,8 @@ use Rattle.serde_json.specs.View.{view}
 use Rattle.tmem_tree.specs.declared.tx.Tx.{Tx}
 use Rattle.tmem_forms.specs.Errors.{Refuses}
 use Rattle.tmem_forms.specs.TxForms.{IsByte, IsTx, TxInRange, tx_form, natural, array_of, tagged}
-use Rattle.tmem_forms.proofs.ArrayForms.{three_same, view_of_two, view_of_three, length-array, view_of_only, map_more}
-use Rattle.tmem_forms.proofs.Laws.{passed_on, NoTx, two_same, view_of_array, no_items_at, items_of_body}
+use Rattle.tmem_forms.proofs.ArrayForms.{three_same, view_of_two, view_of_three, length-array, view_of_only}
+use Rattle.tmem_forms.proofs.Laws.{passed_on, map_more, NoTx, two_same, view_of_array, no_items_at, items_of_body}
 use Rattle.tmem_forms.proofs.Levels.{IsTx-OrElse, IsTx-When, IsTx-Seq, no_or_else, no_when, no_seq, no_tx_of_members, tagged_as}
 use Rattle.tmem_forms.proofs.Sizes.{falls_to_item, falls_to_member}
 use Rattle.tmem_forms.proofs.tx.+tx.Goals as goal

@@ -5,8 +5,8 @@ use Rattle.serde_json.specs.View.{view}
 use Rattle.tmem_script.specs.Scripts.{IsEntry, EntryInRange, entry_form}
 use Rattle.tmem_forms.specs.TxForms.{array_of}
 use Rattle.tmem_script.specs.declared.script.ScriptEntry.{ScriptEntry}
-use Rattle.tmem_forms.proofs.Laws.{passed_on, no_items_at, items_of_body, view_of_array}
-use Rattle.tmem_script.proofs.Items.{map_more, not_array}
+use Rattle.tmem_forms.proofs.Laws.{passed_on, map_more, no_items_at, items_of_body, view_of_array}
+use Rattle.tmem_script.proofs.NoArray.{not_array}
 use Rattle.tmem_script.proofs.entry.entries_of.Goals as goal
 
 pub returns-in_err-entry_of-clause-refused : goal.returns-in_err-entry_of-clause-refused
