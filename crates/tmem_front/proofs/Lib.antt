@@ -1,6 +1,7 @@
 pub mod Laws
 pub mod Sharing
 mod Again
+mod Awaiting
 mod Looks
 mod Planned
 mod Refused
