@@ -1,5 +1,6 @@
 -- What is told more, and then more again.
-use Rattle.std.proofs.Common.{◌≡◌, ℤ, List, [], ◌∷◌, ◌++◌, map, append_assoc, refl, ap, ap₂, sym, ◌∙◌}
+use Rattle.std.proofs.Common.{◌≡◌, ℤ, List, [], ◌∷◌, ◌++◌, length, map, append_assoc, refl, ap, ap₂, sym, ◌∙◌, arith}
+use Rattle.std.proofs.lemmas.List.{append-nil}
 use Rattle.tmem_fault.specs.declared.fault.Fault.TheVariants as fault
 use Rattle.tmem_answers.specs.declared.answer.Answer.TheVariants as answer
 use Rattle.tmem_requests.specs.declared.request.RequestBody.{RequestBody}
@@ -29,3 +30,8 @@ pub closes_more : {X : Type 0} (f : X → ℤ × RequestBody) (xs : List X) (x :
 closes_more f xs x v mid w is more =
     more ∙ (ap (λ (d : DeskView). tells d (answer_told (f x).0 (answer.Fault fault.Closed) ∷ [])) is
     ∙ (tells_tells v (closed (map f xs)) (answer_told (f x).0 (answer.Fault fault.Closed) ∷ []) ∙ ap (tells v) (sym (closed_more f xs x))))
+
+-- and none is left
+pub closes_all : {X : Type 0} (f : X → ℤ × RequestBody) (xs rest all : List X) (v w : DeskView) → xs ++ rest ≡ all → length rest ≡ 0 → w ≡ tells v (closed (map f xs)) → w ≡ tells v (closed (map f all))
+closes_all f xs [] all v w parts none is = is ∙ ap (λ (ys : List _). tells v (closed (map f ys))) (sym (append-nil xs) ∙ parts)
+closes_all f xs (x ∷ rest) all v w parts none is = absurd (omega arith)

@@ -1,4 +1,4 @@
-use Rattle.std.proofs.Common.{◌∙◌, inr, ℕ, List, ap, sym, subst}
+use Rattle.std.proofs.Common.{◌∙◌, inl, inr, ℕ, List, refl, ap, sym, subst}
 use Rattle.std.specs.Prelude.{All}
 use Rattle.std.specs.Io.KnownBytes.{Appends}
 use Rattle.tmem_spine.specs.History.{count}
@@ -57,3 +57,21 @@ pub returns-in-Err-clause-memory : goal.returns-in-Err-clause-memory
 returns-in-Err-clause-memory g c = λ wanting.
     (unprinted_want c.args.fault c.deref.result.now (Appends (g.W.Write.contents c.args.out.now) (g.W.Write.contents c.print-printed.new.out)) c.in-Err.failure wanting
     (subst (All (TellsOnly c.args.fault)) (sym (c.deref.ensures.value ∙ c.in-Ok.ensures)) (only_last c.durable_at_last-durable.result c.args.fault c.replace-told.result.items (c.durable_at_last-durable.ensures.memory wanting))) c.in-Err.ensures.err)
+
+pub returns-in-Err-clause-never : goal.returns-in-Err-clause-never
+returns-in-Err-clause-never g c = refl
+
+pub returns-in-Err-clause-ends : goal.returns-in-Err-clause-ends
+returns-in-Err-clause-ends g c = c.in-Err.ensures.ends
+
+pub returns-in-Ok-printed-clause-never : goal.returns-in-Ok-printed-clause-never
+returns-in-Ok-printed-clause-never g c = refl
+
+pub returns-in_default-clause-never : goal.returns-in_default-clause-never
+returns-in_default-clause-never g c = refl
+
+pub returns-in_default-clause-memory : goal.returns-in_default-clause-memory
+returns-in_default-clause-memory g c = λ _. refl
+
+pub returns-in_default-clause-told : goal.returns-in_default-clause-told
+returns-in_default-clause-told g c = λ text held mid over passes is. inl refl

@@ -1,4 +1,5 @@
 use Rattle.std.proofs.Common.{ℕ, List, subst}
+use Rattle.std.proofs.lemmas.Result.{err_from_is_err_and}
 use Rattle.tmem_desk.specs.Asking.{store}
 use Rattle.tmem_desk.specs.Failing.{PassesShort}
 use Rattle.tmem_desk.specs.Held.{desk_view}
@@ -40,3 +41,9 @@ returns-in_err-pass_line_over-in-Line-clause-err g c = handed c.from_residual.re
 pub returns-in_err-take_long_line-in-TooLong-clause-err : goal.returns-in_err-take_long_line-in-TooLong-clause-err
 returns-in_err-take_long_line-in-TooLong-clause-err g c =
     handed c.from_residual-in_err-take_long_line-in-TooLong.result c.in_err-take_long_line-in-TooLong.field-0.0 _ c.from_residual-in_err-take_long_line-in-TooLong.ensures.1 c.in_err-take_long_line-in-TooLong.ensures.err
+
+pub returns-in_err-pass_line_over-in-Line-clause-ok : goal.returns-in_err-pass_line_over-in-Line-clause-ok
+returns-in_err-pass_line_over-in-Line-clause-ok g c = rw (err_from_is_err_and c.from_residual.result c.from_residual.ensures.1).1 tt
+
+pub returns-in_err-take_long_line-in-TooLong-clause-ok : goal.returns-in_err-take_long_line-in-TooLong-clause-ok
+returns-in_err-take_long_line-in-TooLong-clause-ok g c = rw (err_from_is_err_and c.from_residual-in_err-take_long_line-in-TooLong.result c.from_residual-in_err-take_long_line-in-TooLong.ensures.1).1 tt

@@ -1,6 +1,6 @@
 use Rattle.std.proofs.Common.{ℤ, w64, refl, sym, ◌∙◌, subst, inl}
 use Rattle.std.proofs.lemmas.Int.{to_z-of_z}
-use Rattle.std.proofs.lemmas.Result.{on_ok_weaker}
+use Rattle.std.proofs.lemmas.Result.{err_from_is_err_and, on_ok_weaker}
 use Rattle.tmem_desk.specs.Asking.{store}
 use Rattle.tmem_desk.specs.Held.{desk_view}
 use Rattle.tmem_desk.specs.Keeping.{kept_under}
@@ -40,3 +40,6 @@ returns-then-not-begins_with_puts-clause-err g c = memory_only _ c.tell-then-not
 
 pub returns-in_err-copy-clause-err : goal.returns-in_err-copy-clause-err
 returns-in_err-copy-clause-err g c = handed c.from_residual.result Memory _ c.from_residual.ensures.1 (inl refl)
+
+pub returns-in_err-copy-clause-ok : goal.returns-in_err-copy-clause-ok
+returns-in_err-copy-clause-ok g c = rw (err_from_is_err_and c.from_residual.result c.from_residual.ensures.1).1 tt

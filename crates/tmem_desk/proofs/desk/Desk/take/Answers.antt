@@ -1,6 +1,6 @@
 use Rattle.std.proofs.Common.{ℕ, ℤ, List, w64, to_z, of_z, refl, subst, inr}
 use Rattle.std.proofs.lemmas.Int.{to_z-of_z}
-use Rattle.std.proofs.lemmas.Result.{on_ok_weaker, IfErr-weaker}
+use Rattle.std.proofs.lemmas.Result.{err_from_is_err_and, on_ok_weaker, IfErr-weaker}
 use Rattle.tmem_answers.specs.declared.answer.Answer.TheVariants as answer
 use Rattle.tmem_requests.specs.declared.request.RequestBody.TheVariants as ask
 use Rattle.tmem_seats.specs.Settling.{KnowsMore, SeesMore}
@@ -105,3 +105,6 @@ returns-in-State-clause-err g c = failed_if_none (desk_view c.args.self.now) (de
 
 pub returns-in-Checkpoint-clause-err : goal.returns-in-Checkpoint-clause-err
 returns-in-Checkpoint-clause-err g c = failed_if_none (desk_view c.args.self.now) (desk_view c.tell_or_fail-in-Checkpoint.new.self) c.args.self.now.pass c.write_image-answered.result c.tell_or_fail-in-Checkpoint.result (any_err c.write_image-answered.result _ (λ _. sees_the_same c.args.self.now.pass)) c.tell_or_fail-in-Checkpoint.ensures.err
+
+pub returns-in_err-count-in-Get-clause-ok : goal.returns-in_err-count-in-Get-clause-ok
+returns-in_err-count-in-Get-clause-ok g c = rw (err_from_is_err_and c.from_residual.result c.from_residual.ensures.1).1 tt

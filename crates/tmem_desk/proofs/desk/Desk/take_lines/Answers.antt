@@ -1,4 +1,5 @@
 use Rattle.std.proofs.Common.{ℕ, List, subst, inl}
+use Rattle.std.proofs.lemmas.Result.{err_from_is_err_and}
 use Rattle.tmem_desk.specs.Asking.{store}
 use Rattle.tmem_desk.specs.Held.{desk_view}
 use Rattle.tmem_desk.specs.Serving.{TakesShort}
@@ -49,3 +50,9 @@ pub returns-in_err-take_long_line-in-TooLong-clause-err : goal.returns-in_err-ta
 returns-in_err-take_long_line-in-TooLong-clause-err g c =
     handed c.from_residual-in_err-take_long_line-in-TooLong.result c.in_err-take_long_line-in-TooLong.field-0.0 _ c.from_residual-in_err-take_long_line-in-TooLong.ensures.1
     (λ text stands. inl c.in_err-take_long_line-in-TooLong.ensures.err)
+
+pub returns-in_err-take_line-in-Line-clause-ok : goal.returns-in_err-take_line-in-Line-clause-ok
+returns-in_err-take_line-in-Line-clause-ok g c = rw (err_from_is_err_and c.from_residual.result c.from_residual.ensures.1).1 tt
+
+pub returns-in_err-take_long_line-in-TooLong-clause-ok : goal.returns-in_err-take_long_line-in-TooLong-clause-ok
+returns-in_err-take_long_line-in-TooLong-clause-ok g c = rw (err_from_is_err_and c.from_residual-in_err-take_long_line-in-TooLong.result c.from_residual-in_err-take_long_line-in-TooLong.ensures.1).1 tt

@@ -1,6 +1,6 @@
 use Rattle.std.proofs.Common.{◌≡◌, Option, FitsSigned, w64, refl, ap, sym, subst, arith, length, rules, inl, inr}
 use Rattle.std.proofs.lemmas.Int.{to_z-of_z}
-use Rattle.std.proofs.lemmas.Result.{on_ok_weaker}
+use Rattle.std.proofs.lemmas.Result.{err_from_is_err_and, on_ok_weaker}
 use Rattle.tmem_answers.specs.declared.answer.Answer.{Answer}
 use Rattle.tmem_desk.specs.Asking.{Tries, store}
 use Rattle.tmem_desk.specs.Held.{asked, asking, desk_view}
@@ -41,3 +41,9 @@ returns-in_err-push_back-in-Err-clause-err g c = handed c.from_residual-in_err-p
 pub returns-in_ok-push_back-in-Err-clause-err : goal.returns-in_ok-push_back-in-Err-clause-err
 returns-in_ok-push_back-in-Err-clause-err g c =
     inr (waits_behind (λ w. (w.id, asked w.held)) c.in-Some.one c.args.self.now.waiting.items c.pop_front.new.self.items c.push_back-in-Err.new.self.items (desk_view c.args.self.now) _ c.attempt.new.pass refl c.in-Some.ensures.items c.in_ok-push_back-in-Err.ensures.items refl (sees_by_knowing c.args.self.now.pass c.attempt.new.pass c.in-Err.ensures.knows))
+
+pub returns-in_err-push_back-in-Ok-None-clause-ok : goal.returns-in_err-push_back-in-Ok-None-clause-ok
+returns-in_err-push_back-in-Ok-None-clause-ok g c = rw (err_from_is_err_and c.from_residual.result c.from_residual.ensures.1).1 tt
+
+pub returns-in_err-push_back-in-Err-clause-ok : goal.returns-in_err-push_back-in-Err-clause-ok
+returns-in_err-push_back-in-Err-clause-ok g c = rw (err_from_is_err_and c.from_residual-in_err-push_back-in-Err.result c.from_residual-in_err-push_back-in-Err.ensures.1).1 tt
