@@ -1,4 +1,4 @@
--- What became of a script.
+-- What became of a command that plays a script.
 use Rattle.std.proofs.Common.{◌≡◌, ℕ, List, [], Option, Some, None, Bor, refl, sym, ap, inl, inr, option_map, append-nil}
 use Rattle.std.specs.Prelude.{IsSome}
 use Rattle.std.proofs.lemmas.Bool.{false≢true}
@@ -76,10 +76,10 @@ hands_back (Some path) (Some device) vars slots entries before after some so non
 stops_with_one_on : (path : Option (List ℕ)) (left : Option Played) (vars slots : ℕ) (entries : List ScriptEntry) (f : ProgramFailure) → StopsWhere path left vars slots entries f → status_of f ≡ 1
 stops_with_one_on None left vars slots entries f why = elim why [
   | inl output ↦ ap status_of output
-  | inr refused ↦ elim refused [ | inl memory ↦ ap status_of memory | inr device ↦ ap status_of device ]
+  | inr refused ↦ elim refused [ inl memory ↦ ap status_of memory | inr device ↦ ap status_of device ]
 ]
-stops_with_one_on (Some path) None vars slots entries f why = elim why [ | inl memory ↦ ap status_of memory | inr device ↦ ap status_of device ]
-stops_with_one_on (Some path) (Some it) vars slots entries f why = elim why.1 [ | inl output ↦ ap status_of output.0 | inr refused ↦ ap status_of refused.1 ]
+stops_with_one_on (Some path) None vars slots entries f why = elim why [ inl memory ↦ ap status_of memory | inr device ↦ ap status_of device ]
+stops_with_one_on (Some path) (Some it) vars slots entries f why = elim why.1 [ inl output ↦ ap status_of output.0 | inr refused ↦ ap status_of refused.1 ]
 
 pub stops_with_one : (path : Option (List ℕ)) (left : Option Played) (vars slots : ℕ) (entries : List ScriptEntry) (f : ProgramFailure) → StopsPlaying path left vars slots entries f → status_of f ≡ 1
 stops_with_one path left vars slots entries f why = elim why [

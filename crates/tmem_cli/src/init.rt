@@ -10,9 +10,9 @@ use tmem_builtins::stored_steps;
 use tmem_fault::Fault;
 use tmem_file::FileDisk;
 use tmem_init::{make_in_place, make_store};
-use tmem_tables::LinearTable;
 use tmem_record::Layout;
 use tmem_shape::StoreShape;
+use tmem_tables::LinearTable;
 
 /// Makes a store of the shape that a file has: a new one, with the shape beside it, or one on what is there. Refused by `Device` where
 /// the store's path is empty: the shape would get the path `.json`.

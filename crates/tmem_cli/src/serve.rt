@@ -16,10 +16,10 @@ use tmem_args::Serving;
 use tmem_builtins::stored_steps;
 use tmem_desk::DeskFailure;
 use tmem_file::FileDisk;
-use tmem_tables::LinearTable;
 use tmem_record::Layout;
 use tmem_serve::{InputEnd, ServeError, Served, serve_store};
 use tmem_shape::StoreShape;
+use tmem_tables::LinearTable;
 
 /// Opens a store with its shape, and answers the requests of the input until it ends. `Input` where a read of it failed.
 pub(crate) fn serve<I: Read, W: Write>(

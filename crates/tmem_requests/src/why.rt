@@ -46,7 +46,7 @@ impl RequestFlaw {
     ghost use Rattle.std.specs.Prelude.{◌≡◌};
     ghost use Rattle.tmem_requests.specs.Refusals.{request_why_text};
 
-    // It, in words.
+    // The flaw in words.
     fn text(self) -> &'static str
         ensures { result.now ≡ request_why_text self }
     {

@@ -13,7 +13,7 @@ pub passed_on : {X : Type 0} (P Q : Type 0) (r : Result X ShapeError) (e : Shape
 passed_on P Q (Ok x) e same refused more = tt
 passed_on P Q (Err y) e same refused more = subst (λ d. RefusesText d Q) (sym same) (refuses_more P Q e refused more)
 
--- which are no value
+-- a refusal is no value
 pub no_value : {X E : Type 0} (P : X → Type 0) (Q : E → Type 0) (r : Result X E) → IsErrAnd r Q → IfOk r P
 no_value P Q (Ok x) refused = absurd refused
 no_value P Q (Err e) refused = tt

@@ -15,8 +15,8 @@ use crate::why::ShapeFlaw;
 use serde_json::Value;
 use std::alloc::{AllocError, Global};
 use tmem_fault::Name;
-use tmem_tables::Linear;
 use tmem_record::{LEAST_SLOTS, MOST_SLOTS, MOST_VARS};
+use tmem_tables::Linear;
 
 /// What a store is: its variables, its log, its invariants, and names of variables.
 #[derive(Drop)]

@@ -3,7 +3,7 @@
 //! A `TableEntry` is one invariant, data or a closure: `Invariant` keeps a closure with the meaning that its maker stated. A table tests
 //! all its entries, or those alone that a change can have broken, to the same answer: for each variable it knows the entries over it.
 //! `Table` has closures, and `TableOf` data of one kind. `Linear` is such data: a sum of a few variables stays within bounds. What one
-//! means is the definition `is_within` of `specs/Sums`: the least that is allowed <= the sum <= the most, as whole numbers.
+//! means is the definition `is_sum_within` of `specs/Sums`: the least that is allowed <= the sum <= the most, as whole numbers.
 #![tactic(auto)]
 
 mod by_variable;

@@ -35,7 +35,7 @@ pub struct Linear {
 }
 
 impl Linear {
-    /// The invariant. Its variables are 1 to `MAX_FOOTPRINT`, none twice (`first_repeated` of `tmem_invariants` says), with
+    /// The invariant. Its variables are 1 to `MAX_FOOTPRINT`, none twice (`first_repeated` says), with
     /// a weight for each.
     pub fn new(
         name: Name,

@@ -20,7 +20,7 @@ use Rattle.tmem_tentative.proofs.PlaceRuns.{with_left, in_child}
 use Rattle.tmem_tentative.proofs.PlaceSaves.{EntersFirst, inside, joined}
 use Rattle.tmem_tentative.proofs.PlaceChildren.{IsChild, child_may, child_runs, first_may, first_runs, retried_child}
 
--- a child that is entered, by other names
+-- the same child under equal names
 pub enters_as : (path left : List ℕ) {start start' child child' : ℕ} → Enters path start child left → start ≡ start' → child ≡ child' → Enters path start' child' left
 enters_as path left {start' = start'} {child = child} e is same = subst (λ k. Enters path start' k left) same (subst (λ k. Enters path k child left) is e)
 

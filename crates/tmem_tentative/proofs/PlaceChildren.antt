@@ -150,7 +150,7 @@ module _ (IsStated : StepMeanings → Type 0) (shapes : List Shape) (seen : Take
           goes_on = λ m footprint reads path saves s. refl;
         }))
 
--- a choice of which a run may go on, by its first branch
+-- a run may go on in the first branch of a choice
 pub enters_choice : {tx : Tx} (a b : Box Tx Global) (before : Place) (left : List ℕ) (saves : List Save) {arities : List ℕ} {invariants : List (List ℕ)} → tx ≡ OrElse a b → MayRunFrom arities invariants tx before → length saves ≡ length before.saves
     → EntersChoice before.path (record { registers = before.registers; effect = before.effect }) before.saves true left saves → EntersFirst before left saves
 enters_choice a b before left saves is may = enters_first before left saves (choice_saved a b (subst (λ t. choices t ≤ length before.saves) is may.enough))

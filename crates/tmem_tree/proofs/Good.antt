@@ -11,7 +11,7 @@ pub if_both : {X : Type 0} (o : Option X) {P Q : Type 0} → (P → Q) → IfSom
 if_both (Some x) then p = then p
 if_both None then p = tt
 
--- what a test of a node says, from the call that answers it
+-- two values equal to one are equal
 pub said : {a b v : Bool} → a ≡ b → a ≡ v → b ≡ v
 said is known = sym is ∙ known
 

@@ -43,7 +43,7 @@ AllZip-set R (a ∷ xs) [] k x y each here = absurd each
 AllZip-set R (a ∷ xs) (b ∷ ys) zero x y each here = (here, each.1)
 AllZip-set R (a ∷ xs) (b ∷ ys) (suc k) x y each here = (each.0, AllZip-set R xs ys k x y each.1 here)
 
--- a fact that is found once and used more than once
+-- what follows from a fact
 pub given : {A B : Type 0} → A → (A → B) → B
 given a from = from a
 

@@ -9,7 +9,7 @@ use super::moves::{Answer, Refusal, Task};
 use super::scenes::Line::{
     After, Before, FailSync, First, FourMore, Last, Scene, Second, SkipSeconds, SyncMillis, Third,
 };
-use super::scenes::{Line, play, play_times};
+use super::scenes::{Line, play};
 use std::test::Fail;
 
 /// More milliseconds than a scene lasts.
@@ -285,5 +285,8 @@ fn passes_are_shared(rt: HostRuntime) -> Result<(), Fail> {
 #[test]
 fn the_core_is_let_go_before_the_pool_is_taken(rt: HostRuntime) -> Result<(), Fail> {
     // several times, since one play has one order
-    play_times(&rt, rt.alloc(), ORDERS, 4)
+    for _ in 0..4 {
+        play(&rt, rt.alloc(), ORDERS)?;
+    }
+    Ok(())
 }

@@ -466,7 +466,7 @@ fn is_played(lines: &[Line]) -> bool {
     parts.iter().any(|part| has_part(lines, *part))
 }
 
-/// How many scenes are played at once.
+/// How many scenes of a table are played at once.
 const LANES: usize = 4;
 
 // What went wrong first in the scenes of a lane, each fourth one from that of its number on, and in which scene.
@@ -488,12 +488,11 @@ fn play_lane<'a, R: Clock + Threads + Wait + Sync>(
     None
 }
 
-/// Plays the scenes of a table, each in a new store, so many times, and some at once. Fails with something that went wrong.
-pub(super) fn play_times<R: Abort + Clock + Threads + Wait + Sync>(
+/// Plays the scenes of a table, each in a new store, and several at once. Fails with one of the things that went wrong.
+pub(super) fn play<R: Abort + Clock + Threads + Wait + Sync>(
     rt: &R,
     alloc: Global,
     lines: &[Line],
-    times: u8,
 ) -> Result<(), Fail> {
     assert!(rt;
         matches!(lines.first(), Some(Line::Scene(_))),
@@ -507,24 +506,9 @@ pub(super) fn play_times<R: Abort + Clock + Threads + Wait + Sync>(
             );
         }
     }
-    let lanes = LANES * usize::from(times);
-    let ended = map_indices(
-        rt,
-        alloc,
-        lanes,
-        &|lane| play_lane(rt, alloc, lines, lane % LANES),
-    )?;
+    let ended = map_indices(rt, alloc, LANES, &|lane| play_lane(rt, alloc, lines, lane))?;
     if let Some((name, wrong)) = ended.into_iter().flatten().next() {
         panic!(rt; "{name}: {wrong:?}");
     }
     Ok(())
-}
-
-/// The same, once.
-pub(super) fn play<R: Abort + Clock + Threads + Wait + Sync>(
-    rt: &R,
-    alloc: Global,
-    lines: &[Line],
-) -> Result<(), Fail> {
-    play_times(rt, alloc, lines, 1)
 }

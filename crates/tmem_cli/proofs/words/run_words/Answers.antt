@@ -99,7 +99,7 @@ returns-in-Err-clause-checked g c = grind (arith, common_steps)
 
 -- words name one command alone
 not_both : {P : Type 0} (words : List (List ℕ)) (one two : List ℕ) → (get_or one 0 0 ≡ get_or two 0 0 → ⊥) → command_in words ≡ Some one → command_in words ≡ Some two → P
-not_both words one two apart is other = 
+not_both words one two apart is other =
     let both : Some one ≡ Some two = sym is ∙ other in
     let same : one ≡ two = cc in
     absurd (apart (ap (λ (text : List ℕ). get_or text 0 0) same))

@@ -7,7 +7,7 @@ use Rattle.tmem_world.specs.EachPlayed.{IsAnswered, IsPlayed}
 use Rattle.tmem_world.proofs.Chains.{answered_on}
 use Rattle.tmem_world.proofs.world.World.step.Goals as goal
 
--- an event is played as the one that it is was answered
+-- an event is played as the equal one was answered
 played : {D T S : Type 0} {d t s : _} (w w' : World D T S d t s) (e e' : Event) (r : Reply) → e ≡ e' → IsAnswered w e' r w' → IsPlayed w e r w'
 played w w' e e' r is it = record { answered = subst (λ (x : Event). IsAnswered w x r w') (sym is) it; chain = answered_on w w' e e' r is it }
 
