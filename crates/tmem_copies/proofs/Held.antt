@@ -1,6 +1,7 @@
 -- What a transaction holds: it is smaller, and its form stands in the transaction's.
-use Rattle.std.proofs.Common.{◌≡◌, ℕ, ◌+◌, ◌<◌, ◌≤◌, List, [], ◌∷◌, length, get_or, map, take, take_all, Vec, Box, Global, Result, IfOk, codes, refl, subst, sym, ap, ◌∙◌, rules}
+use Rattle.std.proofs.Common.{◌≡◌, ℕ, ◌+◌, ◌<◌, ◌≤◌, List, [], ◌∷◌, ◌++◌, length, get_or, map, take, take_all, Vec, Box, Global, Result, IfOk, codes, refl, subst, sym, ap, ◌∙◌, rules}
 use Rattle.std.specs.declared.alloc.AllocError.{AllocError}
+use Rattle.std.proofs.lemmas.List.{map-append, take_more}
 use Rattle.std.proofs.lemmas.Result.{IfOk-weaker}
 use Rattle.tmem_tree.specs.declared.tx.Tx.{Tx}
 use Rattle.tmem_tree.specs.declared.tx.Tx.TheVariants.{Seq, When, OrElse}
@@ -68,3 +69,10 @@ pub same_or_else : (r : Result Tx AllocError) (whole : Tx) (a b : Box Tx Global)
     → IfOk r (λ tx. tx_form tx ≡ tagged (codes "orelse") (array_of (tx_form first ∷ tx_form second ∷ []))) → IfOk r (λ tx. tx_form tx ≡ tx_form whole)
 same_or_else r whole a b first second is one two =
     IfOk-weaker r _ _ (λ tx form. form ∙ ap (λ d. tagged (codes "orelse") (array_of (d ∷ tx_form second ∷ []))) one ∙ ap (λ d. tagged (codes "orelse") (array_of (tx_form a.value ∷ d ∷ []))) two ∙ sym (ap tx_form is ∙ or_else_form a b))
+
+-- one more tree was copied
+pub forms_more : (xs ys vs : List Tx) (x : Tx) (i : ℕ) (v : Tx) → i < length vs → v ≡ get_or vs i v → tx_form x ≡ tx_form v → map tx_form xs ≡ map tx_form (take i vs) → ys ≡ xs ++ x ∷ [] → map tx_form ys ≡ map tx_form (take (i + 1) vs)
+forms_more xs ys vs x i v within at same so_far pushed =
+    ap (map tx_form) pushed ∙ map-append tx_form xs (x ∷ []) ∙ ap (λ l. l ++ tx_form x ∷ []) so_far
+    ∙ ap (λ d. map tx_form (take i vs) ++ d ∷ []) (same ∙ ap tx_form at)
+    ∙ sym (map-append tx_form (take i vs) (get_or vs i v ∷ [])) ∙ ap (map tx_form) (sym (take_more vs i v within))

@@ -1,7 +1,6 @@
-use Rattle.std.proofs.Common.{sym, ap, ◌∙◌}
+use Rattle.std.proofs.Common.{ap, ◌∙◌}
 use Rattle.tmem_forms.specs.TxForms.{tx_form}
-use Rattle.tmem_forms.proofs.Laws.{map_more}
-use Rattle.tmem_copies.proofs.Held.{falls_to_item, falls_to_then, falls_to_other, falls_to_left, falls_to_right, same_seq, same_when, same_or_else}
+use Rattle.tmem_copies.proofs.Held.{falls_to_item, falls_to_then, falls_to_other, falls_to_left, falls_to_right, same_seq, same_when, same_or_else, forms_more}
 use Rattle.tmem_copies.proofs.copying.+copy_of.Goals as goal
 
 pub copy_of-requires : goal.copy_of-requires
@@ -20,7 +19,7 @@ pub copy_of-requires-in-OrElse-2 : goal.copy_of-requires-in-OrElse-2
 copy_of-requires-in-OrElse-2 t c = (falls_to_right c.args.tx.now c.in-OrElse.left c.in-OrElse.right c.deref-in-OrElse-2.result.now t c.in-OrElse.is c.deref-in-OrElse-2.ensures c.decreases, tt)
 
 pub loop-t-preserved : goal.loop-t-preserved
-loop-t-preserved t c = map_more tx_form tx_form c.loop-t.all.items c.push.new.self.items c.deref-t-items.result.now c.in_ok-copy_of-in-Seq.field-0 c.loop-t.t-index c.t-item.result c.loop-t-test.true c.t-item.is (sym c.in_ok-copy_of-in-Seq.ensures) c.loop-t.invariant c.in_ok-push-in-Seq.ensures.items
+loop-t-preserved t c = forms_more c.loop-t.all.items c.push.new.self.items c.deref-t-items.result.now c.in_ok-copy_of-in-Seq.field-0 c.loop-t.t-index c.t-item.result c.loop-t-test.true c.t-item.is c.in_ok-copy_of-in-Seq.ensures c.loop-t.invariant c.in_ok-push-in-Seq.ensures.items
 
 pub returns-after-loop-t : goal.returns-after-loop-t
 returns-after-loop-t t c = same_seq c.args.tx.now c.in-Seq.txs c.loop-t.all c.deref-t-items.result.now c.loop-t.t-index c.in-Seq.is c.deref-t-items.ensures.value c.loop-t-test.false c.loop-t.invariant
