@@ -469,26 +469,30 @@ fn is_played(lines: &[Line]) -> bool {
 /// How many scenes of a table are played at once.
 const LANES: usize = 4;
 
-// What went wrong first in the scenes of a lane, each fourth one from that of its number on, and in which scene.
+// Plays the scenes of a lane, each fourth one from that of its number on, and answers how many there were, or what went wrong first, and in
+// which scene.
 fn play_lane<'a, R: Clock + Threads + Wait + Sync>(
     rt: &R,
     alloc: Global,
     lines: &[Line<'a>],
     lane: usize,
-) -> Option<(&'a str, Wrong)> {
+) -> Result<usize, (&'a str, Wrong)> {
     let scenes = lines.iter().enumerate().filter_map(|(index, line)| match line {
         Line::Scene(name) => Some((index, *name)),
         _ => None,
     });
+    let mut played: usize = 0;
     for (begin, name) in scenes.skip(lane).step_by(LANES) {
         if let Some(wrong) = play_scene(rt, alloc, scene_at(lines, begin)) {
-            return Some((name, wrong));
+            return Err((name, wrong));
         }
+        played = played.saturating_add(1);
     }
-    None
+    Ok(played)
 }
 
-/// Plays the scenes of a table, each in a new store, and several at once. Fails with one of the things that went wrong.
+/// Plays the scenes of a table, each in a new store, and several at once. Fails with one of the things that went wrong, or where a scene
+/// was left out.
 pub(super) fn play<R: Abort + Clock + Threads + Wait + Sync>(
     rt: &R,
     alloc: Global,
@@ -498,17 +502,23 @@ pub(super) fn play<R: Abort + Clock + Threads + Wait + Sync>(
         matches!(lines.first(), Some(Line::Scene(_))),
         "a table begins with a scene"
     );
+    let mut scenes: usize = 0;
     for (index, line) in lines.iter().enumerate() {
         if let Line::Scene(name) = line {
             assert!(rt;
                 is_played(scene_at(lines, index)),
                 "{name}: nothing is done"
             );
+            scenes = scenes.saturating_add(1);
         }
     }
-    let ended = map_indices(rt, alloc, LANES, &|lane| play_lane(rt, alloc, lines, lane))?;
-    if let Some((name, wrong)) = ended.into_iter().flatten().next() {
-        panic!(rt; "{name}: {wrong:?}");
+    let mut played: usize = 0;
+    for ended in map_indices(rt, alloc, LANES, &|lane| play_lane(rt, alloc, lines, lane))? {
+        match ended {
+            Ok(more) => played = played.saturating_add(more),
+            Err((name, wrong)) => panic!(rt; "{name}: {wrong:?}"),
+        }
     }
+    assert!(rt; played == scenes, "{played} of {scenes} scenes were played");
     Ok(())
 }
