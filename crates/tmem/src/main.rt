@@ -1,14 +1,27 @@
-//! `tmem`: plays scripts of durable transactions, and prints a line for each event; or lets threads count up; or times the jobs
-//! of a service; or shows, makes or serves a store.
+//! `tmem`: plays scripts of durable transactions, and prints a line for each event; or lets threads count up, and prints their totals; or
+//! times the jobs of a service; or shows what is in a store, makes one of a shape, or serves one; or checks a script.
+//!
+//! `words` does what the words of a command line say. `script` plays a script, which it reads first, `count` lets threads count up,
+//! `bench` has the jobs of a service timed, `show` shows a store, `init` makes one of a shape, `serve` serves one, and `check` says what
+//! is wrong with a script. `status` answers the status of what a command came to, and tells the user.
 #![tactic(auto)]
 
+mod bench;
+mod check;
 mod command_line;
+mod count;
+mod init;
+mod script;
+mod serve;
+mod show;
+mod status;
+mod words;
 
 use command_line::words_of;
 use std::io::LineWriter;
 use std::process::ExitCode;
-use tmem_cli::run_words;
 use tmem_script::{ProgramFailure, report};
+use words::run_words;
 
 fn main(rt: HostRuntime) -> ExitCode {
     let (mut input, mut err) = (rt.stdin(), rt.stderr());
