@@ -1,3 +1,5 @@
 pub mod Errors
+pub mod Leading
 pub mod Members
+pub mod Numbering
 pub mod TxForms
