@@ -1,5 +1,5 @@
 -- What is written in several steps, and what holds of results.
-use Rattle.std.proofs.Common.{ℕ, List, [], ◌++◌, Option, Some, None, Result, Ok, Err, sym, ap, ◌∙◌, append_assoc, append-nil}
+use Rattle.std.proofs.Common.{ℕ, ◌⊎◌, inl, inr, List, [], ◌++◌, Option, Some, None, Result, Ok, Err, sym, ap, ◌∙◌, append_assoc, append-nil}
 use Rattle.std.specs.Prelude.{IfErr, OnOk, OnErr}
 use Rattle.std.specs.Io.KnownBytes.{Appends, Keeps}
 
@@ -41,3 +41,8 @@ err_both (Err e) one two both = both e one two
 pub err_of : {T E : Type 0} (P : Type 0) (r : Result T E) → P → OnErr r P
 err_of P (Ok x) so = tt
 err_of P (Err e) so = so
+
+-- what is not the first of two is the second
+pub second_of : {A B : Type 0} → A ⊎ B → (A → ⊥) → B
+second_of (inl a) other = absurd (other a)
+second_of (inr b) other = b

@@ -49,39 +49,52 @@ pub(crate) enum Is {
 
 impl fmt::Display for Is {
     fn fmt<W: fmt::Write>(&self, f: &mut fmt::Formatter<W>) -> fmt::Result {
-        match *self {
-            Is::Open => f.write_str("the gate, open"),
-            Is::Closed => f.write_str("the gate, closed"),
-            Is::Letters => f.write_str("TMEM"),
-            Is::Version(number) => put_named(f, "version", number.into()),
-            Is::Vars(number) => put_counted(f, number.into(), "variables"),
-            Is::Slots(number) => put_counted(f, number.into(), "log slots"),
-            Is::Zeros => f.write_str("zeros"),
-            Is::Generation(number) => put_named(f, "generation", number),
-            Is::Count(number) => put_named(f, "count", number),
-            Is::Names(number) => put_counted(f, number.into(), "names"),
-            Is::Name(name) => name.fmt(f),
-            Is::Mark(mark) => put_named(f, "mark", mark.into()),
-            Is::Value(var, value) => put_value(f, var, "is", value),
-            Is::ZeroValues(first, last) if first == last => put_value(f, first, "is", 0),
-            Is::ZeroValues(first, last) => put_zeros(f, first, last),
-            Is::First(number) => put_named(f, "first record", number),
-            Is::Records(number) => put_counted(f, number.into(), "records"),
-            Is::Writes(number) => put_counted(f, number.into(), "writes"),
-            Is::Write(var, value) => put_value(f, var, "becomes", value),
-            Is::Checks(number) => put_counted(f, number.into(), "names are checked"),
-            Is::Retires(number) => put_counted(f, number.into(), "names are retired"),
-            Is::Ignored => f.write_str("not looked at"),
-        }
+        let text = match *self {
+            Is::Open => "the gate, open",
+            Is::Closed => "the gate, closed",
+            Is::Letters => "TMEM",
+            Is::Zeros => "zeros",
+            Is::Ignored => "not looked at",
+            Is::Name(name) => return name.fmt(f),
+            Is::Value(var, value) => return put_value(f, var, "is", value),
+            Is::Write(var, value) => return put_value(f, var, "becomes", value),
+            Is::ZeroValues(first, last) if first == last => return put_value(f, first, "is", 0),
+            Is::ZeroValues(first, last) => return put_zeros(f, first, last),
+            Is::Version(_)
+            | Is::Vars(_)
+            | Is::Slots(_)
+            | Is::Generation(_)
+            | Is::Count(_)
+            | Is::Names(_)
+            | Is::Mark(_)
+            | Is::First(_)
+            | Is::Records(_)
+            | Is::Writes(_)
+            | Is::Checks(_)
+            | Is::Retires(_) => return put_number(f, self),
+        };
+        f.write_str(text)
     }
 }
 
-fn put_named<W: fmt::Write>(f: &mut fmt::Formatter<W>, what: &str, number: u64) -> fmt::Result {
-    write!(f, "{what} {number}")
-}
-
-fn put_counted<W: fmt::Write>(f: &mut fmt::Formatter<W>, number: u64, what: &str) -> fmt::Result {
-    write!(f, "{number} {what}")
+// A number, and what stands before or behind it; nothing of a field that is no number.
+fn put_number<W: fmt::Write>(f: &mut fmt::Formatter<W>, is: &Is) -> fmt::Result {
+    let (before, number, behind) = match *is {
+        Is::Version(number) => ("version ", number as u64, ""),
+        Is::Vars(number) => ("", number as u64, " variables"),
+        Is::Slots(number) => ("", number as u64, " log slots"),
+        Is::Generation(number) => ("generation ", number, ""),
+        Is::Count(number) => ("count ", number, ""),
+        Is::Names(number) => ("", number as u64, " names"),
+        Is::Mark(number) => ("mark ", number as u64, ""),
+        Is::First(number) => ("first record ", number, ""),
+        Is::Records(number) => ("", number as u64, " records"),
+        Is::Writes(number) => ("", number as u64, " writes"),
+        Is::Checks(number) => ("", number as u64, " names are checked"),
+        Is::Retires(number) => ("", number as u64, " names are retired"),
+        _ => return Ok(()),
+    };
+    write!(f, "{before}{number}{behind}")
 }
 
 fn put_value<W: fmt::Write>(

@@ -101,9 +101,9 @@ fn put_parts<W: Write>(
 
 // The start of block 0, up to the end of the layout.
 fn put_block<W: Write>(out: &mut Printer<W>, version: Version, layout: Layout) {
-    out.put_number("{\"at\":0,\"version\":", version.number().into());
-    out.put_number(",\"vars\":", layout.vars.into());
-    out.put_number(",\"slots\":", layout.slots.into());
+    out.put_number("{\"at\":0,\"version\":", version.number() as u64);
+    out.put_number(",\"vars\":", layout.vars as u64);
+    out.put_number(",\"slots\":", layout.slots as u64);
     out.put_number(",\"end\":", layout.end());
 }
 
@@ -177,7 +177,7 @@ fn put_copy<W: Write>(
 
 fn put_head<W: Write>(out: &mut Printer<W>, role: PartRole, image: &ImageState) {
     put_role(out, role);
-    out.put_number(",\"version\":", image.version.number().into());
+    out.put_number(",\"version\":", image.version.number() as u64);
     out.put_number(",\"generation\":", image.generation);
     put_reached(out, ",\"count\":", &image.state);
 }

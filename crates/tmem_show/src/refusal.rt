@@ -38,16 +38,19 @@ enum Part {
 
 impl fmt::Display for Refusal {
     fn fmt<W: fmt::Write>(&self, f: &mut fmt::Formatter<W>) -> fmt::Result {
-        match self.place {
-            Place::In(Part::Block, wrong) => write!(f, "block 0, {wrong}"),
-            Place::In(Part::Image(copy), wrong) => write!(f, "image {copy}, {wrong}"),
-            Place::In(Part::Slot(k), wrong) => write!(f, "slot {k}, {wrong}"),
-            Place::Before(size, wrong) => write!(
-                f,
-                "it has {size} bytes, and the shortest store has {}; block 0, {wrong}",
-                least_layout().end()
-            ),
-        }
+        let (part, number, wrong) = match self.place {
+            Place::In(Part::Block, wrong) => ("block", 0, wrong),
+            Place::In(Part::Image(copy), wrong) => ("image", copy as u64, wrong),
+            Place::In(Part::Slot(k), wrong) => ("slot", k, wrong),
+            Place::Before(size, wrong) => {
+                return write!(
+                    f,
+                    "it has {size} bytes, and the shortest store has {}; block 0, {wrong}",
+                    least_layout().end()
+                );
+            }
+        };
+        write!(f, "{part} {number}, {wrong}")
     }
 }
 

@@ -92,9 +92,9 @@ fn show_parts<W: Write>(
 
 // What block 0 says.
 fn show_block<W: Write>(out: &mut Printer<W>, version: Version, layout: Layout) {
-    out.put_number("block 0 at 0: open, version ", version.number().into());
-    out.put_number(", ", layout.vars.into());
-    out.put_number(" variables, ", layout.slots.into());
+    out.put_number("block 0 at 0: open, version ", version.number() as u64);
+    out.put_number(", ", layout.vars as u64);
+    out.put_number(" variables, ", layout.slots as u64);
     out.put_number(" log slots, ", layout.end());
     out.put(" bytes in all\n");
 }
@@ -123,7 +123,7 @@ fn show_image<W: Write>(
     requires { copy ≤ 1 }
 {
     let walked = look.walk_image(copy)?;
-    begin(out, "image ", copy.into(), walked.at);
+    begin(out, "image ", copy as u64, walked.at);
     show_copy(look, copy, &walked, out)?;
     show_hex(look, &walked, hex, out);
     Ok(())
@@ -160,7 +160,7 @@ fn show_copy<W: Write>(
 
 fn show_open_image<W: Write>(out: &mut Printer<W>, role: &str, image: &ImageState) {
     show_open(out, role);
-    out.put_number(", version ", image.version.number().into());
+    out.put_number(", version ", image.version.number() as u64);
     out.put_number(", generation ", image.generation);
     out.put_number(", count ", image.state.count());
     out.put(", names=");
@@ -199,7 +199,7 @@ fn show_slot<W: Write>(
     requires { k < look.now.layout.slots }
 {
     let walked = look.walk_slot(k)?;
-    begin(out, "slot ", k.into(), walked.at);
+    begin(out, "slot ", k as u64, walked.at);
     let slot = look.slot(k, records);
     show_content(out, look.role_of_slot(k), slot, records, &walked);
     show_hex(look, &walked, hex, out);
@@ -226,13 +226,12 @@ fn show_content<W: Write>(
 
 // The batch of a slot.
 fn show_batch<W: Write>(out: &mut Printer<W>, role: &str, head: Head, records: &Records) {
-    let (generation, first) = (head.generation, head.first);
     show_open(out, role);
-    out.put_number(", generation ", generation);
-    out.put_number(", first record ", first);
+    out.put_number(", generation ", head.generation);
+    out.put_number(", first record ", head.first);
     out.put("\n");
     for (i, effect) in records.effects().iter().enumerate() {
-        show_record(out, first.saturating_add(i as u64), effect);
+        show_record(out, head.first.saturating_add(i as u64), effect);
     }
 }
 
@@ -268,8 +267,9 @@ fn show_wrong<W: Write>(out: &mut Printer<W>, role: &str, walked: &Walked) {
 
 // The state that an opening finds, as `tmem run` prints it.
 fn show_state<W: Write>(out: &mut Printer<W>, state: &State) {
-    out.put_number("recovery: opened ", state.count());
-    out.put_number("\nstate count=", state.count());
+    let count = state.count();
+    out.put_number("recovery: opened ", count);
+    out.put_number("\nstate count=", count);
     out.put(" names=");
     out.put_all(state.names());
     out.put(" values=");
