@@ -22,7 +22,7 @@ use std::rt::Clock;
 use std::sync::Wait;
 use std::thread::Threads;
 use tmem_builtins::stored_steps;
-use tmem_fault::Name;
+use tmem_fault::{Fault, Name};
 use tmem_invariants::Invariants;
 use tmem_tables::{Invariant, Table};
 use tmem_tree::StoredSteps;
@@ -38,7 +38,8 @@ fn main(rt: HostRuntime) -> Result<()> {
     )?;
     let solvent = Invariant::new(Name::new("solvent")?, vec![in alloc; 0, 1, 2, 3]?, solvent)?;
     let table = Table::of(alloc, vec![in alloc; solvent]?, ACCOUNTS)?;
-    with_device(&rt, alloc, path.as_deref(), table, stored_steps())
+    with_device(&rt, alloc, path.as_deref(), table, stored_steps())?;
+    Ok(())
 }
 
 // Whether an account is below zero.
@@ -53,15 +54,14 @@ fn with_device<
     R: AllocGlobal + Clock + Files<File = File> + Print + Threads + Wait + Sync,
     T: Invariants + Drop + Send,
     S: StoredSteps + Drop + Send + Sync,
->(rt: &R, alloc: Global, path: Option<&str>, table: T, steps: S) -> Result<()>
+>(rt: &R, alloc: Global, path: Option<&str>, table: T, steps: S) -> Result<(), Fault>
     requires vars { T.vars table ≡ 4 }
     requires names { T.names table ≡ bank.names }
     requires tests { T.is_stated table bank.tests }
     requires steps { S.is_stated steps bank.steps }
 {
     match path {
-        Some(path) => open(rt, alloc, device_in_file(rt, path)?, table, steps)?,
-        None => open(rt, alloc, device_in_memory(alloc)?, table, steps)?,
+        Some(path) => open(rt, alloc, device_in_file(rt, path)?, table, steps),
+        None => open(rt, alloc, device_in_memory(alloc)?, table, steps),
     }
-    Ok(())
 }

@@ -190,23 +190,8 @@ fn settle_and_say<
     requires names { FitsNames N.program.names plan.now.tree }
     requires shapes { FitsShapes N.program.tests plan.now }
 {
-    say(rt, &settle(rt, front, pass, plan)?);
+    say(rt, &front.atomically(rt, pass, plan)?);
     Ok(())
-}
-
-// Settles a plan.
-fn settle<N: StoreNaming, D: Disk + Drop, T: Invariants + Drop, S: StoredSteps + Drop, R: Wait>(
-    rt: &R,
-    front: &Front<D, N, T, S>,
-    pass: &mut Pass<N>,
-    plan: &Plan,
-) -> Result<Settled, Fault>
-    requires steps { FitsSteps (S.arities front.now.steps) plan.now.tree }
-    requires variables { FitsVariables front.now.vars plan.now }
-    requires names { FitsNames N.program.names plan.now.tree }
-    requires shapes { FitsShapes N.program.tests plan.now }
-{
-    front.atomically(rt, pass, plan)
 }
 
 // Prints how a transaction ended.

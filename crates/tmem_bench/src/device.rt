@@ -81,21 +81,12 @@ pub fn two_syncs<R: Clock + Files<File = File> + AllocGlobal>(
 {
     match medium {
         Medium::Memory => sync_on(rt, SimDisk::new(rt.alloc(), SYNCED_BYTES as u64)?, time),
-        Medium::File(path) => sync_on_file(rt, path, time),
+        Medium::File(path) => {
+            let disk = new_file(rt, path, SYNCED_BYTES as u64)?;
+            let had = sync_on(rt, disk, time);
+            removed(rt, path, had)
+        }
     }
-}
-
-// The same of a new file, which is removed after it.
-fn sync_on_file<R: Clock + Files<File = File> + AllocGlobal>(
-    rt: &R,
-    path: &str,
-    time: Duration,
-) -> Result<Figures, BenchError>
-    ensures { IfOk result (λ had. had.work ≡ SyncTwice) }
-{
-    let disk = new_file(rt, path, SYNCED_BYTES as u64)?;
-    let had = sync_on(rt, disk, time);
-    removed(rt, path, had)
 }
 
 // What a device does by two syncs alone, for so long.

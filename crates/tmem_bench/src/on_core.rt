@@ -36,8 +36,11 @@ pub fn run_on_core<R: Clock, T: Invariants + Drop, S: StoredSteps>(
     requires stated { T.is_stated table (bench_bank (variables_of job.act)).tests }
     ensures { IfOk result (λ had. had.work ≡ OnCore job.act) }
 {
-    let mut core = new_core(alloc, vars, table)?;
-    plan_on(rt, alloc, vars, job, &mut core, steps)
+    let made = Core::new(alloc, &state_over(alloc, vars)?, table);
+    match made {
+        Ok(mut core) => plan_on(rt, alloc, vars, job, &mut core, steps),
+        Err((fault, _table)) => Err(BenchError::Refused(fault)),
+    }
 }
 
 // Makes the plan.
@@ -90,19 +93,7 @@ fn settle_on<R: Clock, T: Invariants + Drop, S: StoredSteps>(
     })
 }
 
-// A core whose variables all have something, with the invariant registered.
-fn new_core<T: Invariants + Drop>(alloc: Global, vars: u16, table: T) -> Result<Core<T>, Fault>
-    requires { T.vars table ≡ vars }
-    ensures sized { IfOk result (λ core. length (core_state core).values ≡ vars) }
-    ensures registered { IfOk result (λ core. length (core_state core).names ≡ 1) }
-{
-    match Core::new(alloc, &state_over(alloc, vars)?, table) {
-        Ok(core) => Ok(core),
-        Err((fault, _table)) => Err(fault),
-    }
-}
-
-// The state of such a core.
+// The state of a core whose variables all have something, with the invariant registered.
 fn state_over(alloc: Global, vars: u16) -> Result<State, Fault>
     ensures sized { IfOk result (λ state. length state.values ≡ vars) }
     ensures registered { IfOk result (λ state. length state.names ≡ 1) }

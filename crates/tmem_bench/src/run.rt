@@ -186,27 +186,12 @@ fn run_beside_syncs<R: Clock + Files<File = File> + AllocGlobal + Threads + Wait
     ensures alone { (medium.entry ≡ Memory) ⊎ (job.act ≡ Look) → IfOk result (λ told. told.1 ≡ None) }
 {
     if medium.is_file() && job.act != Act::Look {
-        let (had, baseline) = run_between_syncs(rt, medium, job, sync_time)?;
-        Ok((had, Some(baseline)))
-    } else {
-        Ok((run(rt, medium, job)?, None))
+        let before = two_syncs(rt, medium, sync_time)?;
+        let had = run(rt, medium, job)?;
+        let after = two_syncs(rt, medium, sync_time)?;
+        return Ok((had, Some(before.with(after))));
     }
-}
-
-// Runs a job on a new device, between two loops of syncs.
-fn run_between_syncs<R: Clock + Files<File = File> + AllocGlobal + Threads + Wait + Sync>(
-    rt: &R,
-    medium: Medium<'_>,
-    job: Job,
-    sync_time: Duration,
-) -> Result<(Figures, Figures), BenchError>
-    ensures work { IfOk result (λ told. told.0.work ≡ OnStore job.act) }
-    ensures compared { IfOk result (λ told. told.1.work ≡ SyncTwice) }
-{
-    let before = two_syncs(rt, medium, sync_time)?;
-    let had = run(rt, medium, job)?;
-    let after = two_syncs(rt, medium, sync_time)?;
-    Ok((had, before.with(after)))
+    Ok((run(rt, medium, job)?, None))
 }
 
 // Runs a job on a new device.

@@ -155,10 +155,9 @@ fn settle_once<
     T: Invariants + Drop,
     S: StoredSteps + Drop,
     R: Wait,
->(rt: &R, front: &Front<D, N, T, S>, pass: &mut Pass<N>, tx: Tx) -> Result<(), Fault> {
+>(rt: &R, front: &Front<D, N, T, S>, pass: &mut Pass<N>, tx: Tx) -> Result<Settled, Fault> {
     let plan = front.plan(tx)?;
-    front.atomically(rt, pass, &plan)?;
-    Ok(())
+    front.atomically(rt, pass, &plan)
 }
 
 // Settles a plan again and again, until the time of the job from the start is over.
@@ -225,12 +224,11 @@ fn settle_some<
     let Some(number) = last else {
         return Ok(());
     };
-    if matches!(job.callers, Callers::Alone) {
-        had.flushes = had.flushes.saturating_add(1);
-        front.flush_with_room(rt)?;
-    } else {
-        front.await_durable(rt, pass, number)?;
+    if matches!(job.callers, Callers::Beside(_)) {
+        return front.await_durable(rt, pass, number);
     }
+    had.flushes = had.flushes.saturating_add(1);
+    front.flush_with_room(rt)?;
     Ok(())
 }
 

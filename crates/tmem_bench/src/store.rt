@@ -20,7 +20,7 @@ use std::thread::Threads;
 use tmem_builtins::stored_steps;
 use tmem_disk::Disk;
 use tmem_fault::Name;
-use tmem_front::{Front, OpenedFront, StoreNaming};
+use tmem_front::{OpenedFront, StoreNaming};
 use tmem_invariants::Invariants;
 use tmem_tables::{Invariant, Table, Test};
 use tmem_tree::StoredSteps;
@@ -141,20 +141,8 @@ fn with_front<
     ensures { IfOk result (λ had. had.work ≡ work_in task) }
 {
     let front = opened.named::<N>();
-    use_front(rt, alloc, &front, task)
-}
-
-fn use_front<
-    N: StoreNaming + Send + Sync,
-    D: Disk + Drop + Send,
-    T: Invariants + Drop + Send,
-    S: StoredSteps + Drop + Send + Sync,
-    R: Clock + Threads + Wait + Sync,
->(rt: &R, alloc: Global, front: &Front<D, N, T, S>, task: StoreUse) -> Result<Figures, BenchError>
-    ensures { IfOk result (λ had. had.work ≡ work_in task) }
-{
     match task {
-        StoreUse::Serve(job) => serve(rt, alloc, front, job),
+        StoreUse::Serve(job) => serve(rt, alloc, &front, job),
         StoreUse::Fill => {
             front.fill(rt, alloc)?;
             Ok(Figures::zero(Work::Fill))

@@ -400,14 +400,31 @@ fn cause_of_found<R: Files<File = File> + AllocGlobal>(
     }
     let writes = wanted != Wanted::Read;
     match OpenOptions::new().read(true).write(writes).open(rt, path) {
-        Ok(file) if may_be_locked(wanted) && is_locked(&file) => DeviceCause::Locked,
-        Ok(file) if kind.is_block_device() && has_no_bytes(&file) => DeviceCause::NoBytes,
-        Ok(file) if may_be_named_twice(wanted) && is_name_in_doubt(rt, path, &file) => {
-            DeviceCause::SecondName
-        }
-        Ok(file) => cause_of_open(&file, writes),
+        Ok(file) => cause_of_opened(rt, path, wanted, kind, &file),
         Err(error) => DeviceCause::Call(CallCause::of(error)),
     }
+}
+
+// The same of what was opened.
+fn cause_of_opened<R: Files<File = File> + AllocGlobal>(
+    rt: &R,
+    path: &str,
+    wanted: Wanted,
+    kind: FileType,
+    file: &File,
+) -> DeviceCause
+    ensures { may_be_told wanted result ≡ true }
+{
+    if may_be_locked(wanted) && is_locked(file) {
+        return DeviceCause::Locked;
+    }
+    if kind.is_block_device() && has_no_bytes(file) {
+        return DeviceCause::NoBytes;
+    }
+    if may_be_named_twice(wanted) && is_name_in_doubt(rt, path, file) {
+        return DeviceCause::SecondName;
+    }
+    cause_of_open(file, wanted != Wanted::Read)
 }
 
 // Whether another program may have it open where it was wanted so: not where it is read alone, or this program has it open.

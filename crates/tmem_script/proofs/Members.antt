@@ -1,13 +1,13 @@
 -- An object's members, one by one.
-use Rattle.std.proofs.Common.{◌≡◌, ℕ, List, [], ◌∷◌, length, slice_get, map, All, Option, Some, Bor, BTreeMap, String, Global, string_bytes, codes, refl, sym, ap, ◌∙◌, arith}
+use Rattle.std.proofs.Common.{◌≡◌, ℕ, List, [], ◌∷◌, length, slice_get, map, Option, Some, Bor, BTreeMap, String, Global, string_bytes, codes, refl, sym, ap, ◌∙◌, arith}
 use Rattle.std.specs.Option.{option_map}
 use Rattle.serde_json.proofs.Views.{view-Object}
 use Rattle.serde_json.specs.Data.{Data, null, boolean, number, string, array, object, Members, no_members, member}
 use Rattle.serde_json.specs.Find.{as_object}
 use Rattle.serde_json.specs.View.{view, members_view}
 use Rattle.serde_json.specs.declared.value.Value.{Value, Object}
-use Rattle.tmem_script.specs.Scripts.{IsScript, EntryInRange, entry_form}
-use Rattle.tmem_forms.specs.TxForms.{natural, array_of, tagged, IsShort}
+use Rattle.tmem_script.specs.Scripts.{IsScript, entry_form}
+use Rattle.tmem_forms.specs.TxForms.{natural, array_of, tagged}
 use Rattle.tmem_script.specs.declared.script.ScriptEntry.{ScriptEntry}
 
 -- an object's members as a list
@@ -50,11 +50,11 @@ no_script_of_three v m is none n k entries script =
     = sym (ap view is ∙ view-Object m) ∙ script.form in
     none (array_of (map entry_form entries)) (natural k) (natural n) cc
 
-pub script_of_three : (v : Value) (m : BTreeMap (String Global) Value) (events slots vars : Data) (n k : ℕ) (entries : List ScriptEntry) → v ≡ Object m
+-- the value of an object with these three members
+pub view_of_three : (v : Value) (m : BTreeMap (String Global) Value) (events slots vars : Data) → v ≡ Object m
     → members_view m.entries ≡ member (codes "events") events (member (codes "slots") slots (member (codes "vars") vars no_members))
-    → events ≡ array_of (map entry_form entries) → slots ≡ natural k → vars ≡ natural n → IsShort n → IsShort k → All EntryInRange entries → IsScript n k entries (view v)
-script_of_three v m events slots vars n k entries is found first second third vars_fit slots_fit in_range =
-    record { form = ap view is ∙ view-Object m ∙ ap object found ∙ rw (first, second, third) refl; vars_fit = vars_fit; slots_fit = slots_fit; in_range = in_range }
+    → view v ≡ object (member (codes "events") events (member (codes "slots") slots (member (codes "vars") vars no_members)))
+view_of_three v m events slots vars is found = ap view is ∙ view-Object m ∙ ap object found
 
 -- what the members of a script are
 pub record AreOf (n k : ℕ) (entries : List ScriptEntry) (events slots vars : Data) : Type 0 where
@@ -62,11 +62,10 @@ pub record AreOf (n k : ℕ) (entries : List ScriptEntry) (events slots vars : D
   pub slots_of : slots ≡ natural k
   pub vars_of : vars ≡ natural n
 
-pub members_of_script : (v : Value) (m : BTreeMap (String Global) Value) (events slots vars : Data) → v ≡ Object m
-    → members_view m.entries ≡ member (codes "events") events (member (codes "slots") slots (member (codes "vars") vars no_members))
-    → (n k : ℕ) (entries : List ScriptEntry) → IsScript n k entries (view v) → AreOf n k entries events slots vars
-members_of_script v m events slots vars is found n k entries script =
+pub members_of_script : (events slots vars : Data) (n k : ℕ) (entries : List ScriptEntry)
+    → IsScript n k entries (object (member (codes "events") events (member (codes "slots") slots (member (codes "vars") vars no_members)))) → AreOf n k entries events slots vars
+members_of_script events slots vars n k entries script =
     let same : object (member (codes "events") events (member (codes "slots") slots (member (codes "vars") vars no_members)))
     ≡ object (member (codes "events") (array_of (map entry_form entries)) (member (codes "slots") (natural k) (member (codes "vars") (natural n) no_members)))
-    = ap object (sym found) ∙ sym (ap view is ∙ view-Object m) ∙ script.form in
+    = script.form in
     record { events_of = cc; slots_of = cc; vars_of = cc }

@@ -13,17 +13,17 @@ use std::alloc::Global;
 use tmem_forms::FormError;
 
 /// Reads an array of entries.
-pub(crate) fn entries_of(alloc: Global, value: Value) -> Result<Vec<ScriptEntry>, FormError>
-    ensures ok { IfOk result (λ entries. view value ≡ array_of (map entry_form entries.items)) }
+pub(crate) fn entries_of(alloc: Global, value: &Value) -> Result<Vec<ScriptEntry>, FormError>
+    ensures ok { IfOk result (λ entries. view value.now ≡ array_of (map entry_form entries.items)) }
     ensures in_range { IfOk result (λ entries. All EntryInRange entries.items) }
     ensures refused { IfErr result (λ e. Refuses e ((entries : List ScriptEntry) → All EntryInRange entries
-        → ¬ (view value ≡ array_of (map entry_form entries)))) }
+        → ¬ (view value.now ≡ array_of (map entry_form entries)))) }
 {
     let Value::Array(items) = value else {
         return Err(FormError::NoForm);
     };
     let mut entries = Vec::with_capacity(alloc, items.len())?;
-    for item in &items {
+    for item in items {
         entries.push(entry_of(alloc, item)?)?;
     }
     Ok(entries)

@@ -1,6 +1,6 @@
 //! Scripts: the numbers of a device, and what is to be done on it.
 ghost use Rattle.std.specs.Prelude.{◌≡◌, IfOk, IfErr, codes};
-ghost use Rattle.serde_json.specs.Data.{Data, Members, member, no_members};
+ghost use Rattle.serde_json.specs.Data.{Data, Members, member, no_members, object};
 ghost use Rattle.serde_json.specs.View.{view, members_view};
 ghost use Rattle.tmem_event.specs.Events.{NamesAttempt};
 ghost use Rattle.tmem_forms.specs.Errors.{Refuses};
@@ -142,8 +142,23 @@ impl Script {
             return Err(FormError::NoForm);
         };
         let (vars, slots, events) = three_of(members)?;
-        let vars = short_of(&vars)?;
-        let slots = short_of(&slots)?;
+        Script::of_three(alloc, &vars, &slots, &events)
+    }
+
+    // The script that the values of its three members are.
+    fn of_three(
+        alloc: Global,
+        vars: &Value,
+        slots: &Value,
+        events: &Value,
+    ) -> Result<Script, FormError>
+        ensures ok { IfOk result (λ script. IsScript script.vars script.slots script.entries.items
+            (object (member (codes "events") (view events.now) (member (codes "slots") (view slots.now) (member (codes "vars") (view vars.now) no_members))))) }
+        ensures refused { IfErr result (λ e. Refuses e ((n k : ℕ) (entries : List ScriptEntry) → ¬ IsScript n k entries
+            (object (member (codes "events") (view events.now) (member (codes "slots") (view slots.now) (member (codes "vars") (view vars.now) no_members)))))) }
+    {
+        let vars = short_of(vars)?;
+        let slots = short_of(slots)?;
         let entries = entries_of(alloc, events)?;
         Ok(Script {
             vars,
