@@ -1,4 +1,5 @@
 use Rattle.std.proofs.Common.{◌<◌, ℕ, length, ap, subst, ◌∙◌}
+use Rattle.std.proofs.lemmas.Result.{err_from_is_err_and}
 use Rattle.tmem_tentative.specs.Cursors.{Answered, outcome_of, attempt_of, probe_of, given, answers}
 use Rattle.tmem_tentative.specs.Fits.{IsForVariables, IsWithinVariables, IsNamed, IsFilled}
 use Rattle.tmem_tentative.specs.Right.{IsOutcome}
@@ -17,33 +18,39 @@ peek-value-requires g c =
     let within = subst (λ p. IsWithinVariables front.vars (outcome_of c.advance.new.self p)) c.in-Need.is (c.in_ok-var.ensures.within front.vars c.requires.variables) in
     subst (λ (k : ℕ). c.in-Need.var < k) front.over within
 
-pub probe-held-requires-clause-named : goal.probe-held-requires-clause-named
-probe-held-requires-clause-named g c =
-    let names = g.N.ProgramNaming.program.names in
-    rw c.probe.ensures (subst (λ p. IsNamed names (outcome_of c.advance.new.self p)) c.in-Probe.is (c.in_ok-var.ensures.named names c.requires.names))
-
-pub probe-held-requires-clause-filled : goal.probe-held-requires-clause-filled
-probe-held-requires-clause-filled g c =
+pub probe-held-requires : goal.probe-held-requires
+probe-held-requires g c =
+    let program = g.N.ProgramNaming.program in
     let shapes = c.args.plan.now.shapes in
     let filled = subst (λ p. IsFilled shapes (outcome_of c.advance.new.self p)) c.in-Probe.is c.in_ok-var.ensures.filled in
-    rw c.probe.ensures (filled.1 ∙ ap length (footprint_in-AreMeant g.N.ProgramNaming.program.tests shapes (probe_of c.advance.new.self).name c.requires.shapes filled.0))
+    record {
+      named = rw c.probe.ensures (subst (λ p. IsNamed program.names (outcome_of c.advance.new.self p)) c.in-Probe.is (c.in_ok-var.ensures.named program.names c.requires.names));
+      filled = rw c.probe.ensures (filled.1 ∙ ap length (footprint_in-AreMeant program.tests shapes (probe_of c.advance.new.self).name c.requires.shapes filled.0));
+    }
 
-pub returns-in-Ended-clause-variables : goal.returns-in-Ended-clause-variables
-returns-in-Ended-clause-variables g c =
+pub returns-in-Ended : goal.returns-in-Ended
+returns-in-Ended g c =
     let front = c.args.self.now in
-    let within = subst (λ p. IsWithinVariables front.vars (outcome_of c.advance.new.self p)) c.in-Ended.is (c.in_ok-var.ensures.within front.vars c.requires.variables) in
-    subst (λ (k : ℕ). IsForVariables k (attempt_of c.advance.new.self)) front.over within
-
-pub returns-in-Ended-clause-names : goal.returns-in-Ended-clause-names
-returns-in-Ended-clause-names g c =
-    let names = g.N.ProgramNaming.program.names in
-    subst (λ p. IsNamed names (outcome_of c.advance.new.self p)) c.in-Ended.is (c.in_ok-var.ensures.named names c.requires.names)
-
-pub returns-in-Ended-clause-right : goal.returns-in-Ended-clause-right
-returns-in-Ended-clause-right g c = λ m stated.
-    let tests = g.N.ProgramNaming.program.tests in
+    let program = g.N.ProgramNaming.program in
     let self = c.advance.new.self in
-    (subst (λ p. IsOutcome m tests c.args.plan.now.tree (given self) (length (answers self)) (outcome_of self p)) c.in-Ended.is (c.in_ok-var.ensures.right m tests stated c.requires.shapes (c.loop.invariant.at m stated))).1
+    let within = subst (λ p. IsWithinVariables front.vars (outcome_of self p)) c.in-Ended.is (c.in_ok-var.ensures.within front.vars c.requires.variables) in
+    record {
+      ended = subst (λ p. Answered self p) c.in-Ended.is c.in_ok-var.ensures.answered;
+      right = λ m stated. (subst (λ p. IsOutcome m program.tests c.args.plan.now.tree (given self) (length (answers self)) (outcome_of self p)) c.in-Ended.is (c.in_ok-var.ensures.right m program.tests stated c.requires.shapes (c.loop.invariant.at m stated))).1;
+      variables = subst (λ (k : ℕ). IsForVariables k (attempt_of self)) front.over within;
+      names = subst (λ p. IsNamed program.names (outcome_of self p)) c.in-Ended.is (c.in_ok-var.ensures.named program.names c.requires.names);
+      memory = tt;
+    }
+
+pub returns-in_err-restart : goal.returns-in_err-restart
+returns-in_err-restart g c =
+    let handed = err_from_is_err_and c.from_residual.result c.from_residual.ensures.1 in
+    rw handed.1 (record { ended = tt; right = λ m stated. tt; variables = tt; names = tt; memory = handed.2 ∙ c.in_err-restart.ensures.fault })
+
+pub returns-in_err-var : goal.returns-in_err-var
+returns-in_err-var g c =
+    let handed = err_from_is_err_and c.from_residual-in_err-var.result c.from_residual-in_err-var.ensures.1 in
+    rw handed.1 (record { ended = tt; right = λ m stated. tt; variables = tt; names = tt; memory = handed.2 ∙ c.in_err-var.ensures.fault })
 
 pub loop-preserved-in-Need : goal.loop-preserved-in-Need
 loop-preserved-in-Need g c =
@@ -72,6 +79,3 @@ probe-requires g c = subst (λ p. Answered c.advance.new.self p) c.in-Probe.is c
 
 pub answer-requires : goal.answer-requires
 answer-requires g c = subst (λ p. Answered c.advance.new.self p) c.in-Probe.is c.in_ok-var.ensures.answered
-
-pub returns-in-Ended-clause-ended : goal.returns-in-Ended-clause-ended
-returns-in-Ended-clause-ended g c = subst (λ p. Answered c.advance.new.self p) c.in-Ended.is c.in_ok-var.ensures.answered

@@ -32,25 +32,15 @@ loop-preserved-in-Need g c = record {
       (c.peek-value.ensures.value ∙ ap (λ (n : ℤ). Some n) (sym (to_z-of_z {w = w64} {z = c.peek-value.result} (search (rules, c.peek-value.type_inv)))));
 }
 
-pub probe-held-requires-clause-named : goal.probe-held-requires-clause-named
-probe-held-requires-clause-named g c =
-    let names = g.N.ProgramNaming.program.names in
-    rw c.probe.ensures (subst (λ p. IsNamed names (outcome_of c.advance.new.self p)) c.in-Probe.is (c.in_ok-var.ensures.named names c.requires.names))
-
-pub probe-held-requires-clause-filled : goal.probe-held-requires-clause-filled
-probe-held-requires-clause-filled g c =
+pub probe-held-requires : goal.probe-held-requires
+probe-held-requires g c =
+    let program = g.N.ProgramNaming.program in
     let shapes = c.args.plan.now.shapes in
     let filled = subst (λ p. IsFilled shapes (outcome_of c.advance.new.self p)) c.in-Probe.is c.in_ok-var.ensures.filled in
-    rw c.probe.ensures (filled.1 ∙ ap length (footprint_in-AreMeant g.N.ProgramNaming.program.tests shapes (probe_of c.advance.new.self).name c.requires.shapes filled.0))
-
-pub returns-in-Ended-clause-variables : goal.returns-in-Ended-clause-variables
-returns-in-Ended-clause-variables g c =
-    subst (λ p. IsWithinVariables (length g.N.StoreNaming.opening.values) (outcome_of c.advance.new.self p)) c.in-Ended.is (c.in_ok-var.ensures.within (length g.N.StoreNaming.opening.values) c.requires.variables)
-
-pub returns-in-Ended-clause-names : goal.returns-in-Ended-clause-names
-returns-in-Ended-clause-names g c =
-    let names = g.N.ProgramNaming.program.names in
-    subst (λ p. IsNamed names (outcome_of c.advance.new.self p)) c.in-Ended.is (c.in_ok-var.ensures.named names c.requires.names)
+    record {
+      named = rw c.probe.ensures (subst (λ p. IsNamed program.names (outcome_of c.advance.new.self p)) c.in-Probe.is (c.in_ok-var.ensures.named program.names c.requires.names));
+      filled = rw c.probe.ensures (filled.1 ∙ ap length (footprint_in-AreMeant program.tests shapes (probe_of c.advance.new.self).name c.requires.shapes filled.0));
+    }
 
 pub loop-preserved : goal.loop-preserved
 loop-preserved g c =
@@ -73,50 +63,26 @@ answer-requires g c = subst (λ p. Answered c.advance.new.self p) c.in-Probe.is 
 pub advance-requires-clause-stands : goal.advance-requires-clause-stands
 advance-requires-clause-stands g c = c.loop.invariant.stands
 
-pub returns-in-Ended-clause-ended : goal.returns-in-Ended-clause-ended
-returns-in-Ended-clause-ended g c = subst (λ p. Answered c.advance.new.self p) c.in-Ended.is c.in_ok-var.ensures.answered
-
-pub returns-in-Ended-clause-right : goal.returns-in-Ended-clause-right
-returns-in-Ended-clause-right g c = λ m stated.
-    let tests = g.N.ProgramNaming.program.tests in
+pub returns-in-Ended : goal.returns-in-Ended
+returns-in-Ended g c =
+    let opening = g.N.StoreNaming.opening in
+    let program = g.N.ProgramNaming.program in
     let self = c.advance.new.self in
-    (subst (λ p. IsOutcome m tests c.args.plan.now.tree (given self) (length (answers self)) (outcome_of self p)) c.in-Ended.is (c.in_ok-var.ensures.right m tests stated c.requires.shapes (c.loop.invariant.at m stated))).1
+    record {
+      ended = subst (λ p. Answered self p) c.in-Ended.is c.in_ok-var.ensures.answered;
+      right = λ m stated. (subst (λ p. IsOutcome m program.tests c.args.plan.now.tree (given self) (length (answers self)) (outcome_of self p)) c.in-Ended.is (c.in_ok-var.ensures.right m program.tests stated c.requires.shapes (c.loop.invariant.at m stated))).1;
+      variables = subst (λ p. IsWithinVariables (length opening.values) (outcome_of self p)) c.in-Ended.is (c.in_ok-var.ensures.within (length opening.values) c.requires.variables);
+      names = subst (λ p. IsNamed program.names (outcome_of self p)) c.in-Ended.is (c.in_ok-var.ensures.named program.names c.requires.names);
+      present = ap (λ l. is_stale (state_after_history opening c.args.self.now.committed) l) c.advance.ensures.given ∙ c.loop.invariant.present;
+      memory = tt;
+    }
 
-pub returns-in-Ended-clause-present : goal.returns-in-Ended-clause-present
-returns-in-Ended-clause-present g c =
-    ap (λ l. is_stale (state_after_history g.N.StoreNaming.opening c.args.self.now.committed) l) c.advance.ensures.given ∙ c.loop.invariant.present
+pub returns-in_err-restart : goal.returns-in_err-restart
+returns-in_err-restart g c =
+    let handed = err_from_is_err_and c.from_residual.result c.from_residual.ensures.1 in
+    rw handed.1 (record { ended = tt; right = λ m stated. tt; variables = tt; names = tt; present = tt; memory = handed.2 ∙ c.in_err-restart.ensures.fault })
 
-pub returns-in_err-restart-clause-ended : goal.returns-in_err-restart-clause-ended
-returns-in_err-restart-clause-ended g c = rw (err_from_is_err_and c.from_residual.result c.from_residual.ensures.1).1 tt
-
-pub returns-in_err-restart-clause-variables : goal.returns-in_err-restart-clause-variables
-returns-in_err-restart-clause-variables g c = rw (err_from_is_err_and c.from_residual.result c.from_residual.ensures.1).1 tt
-
-pub returns-in_err-restart-clause-names : goal.returns-in_err-restart-clause-names
-returns-in_err-restart-clause-names g c = rw (err_from_is_err_and c.from_residual.result c.from_residual.ensures.1).1 tt
-
-pub returns-in_err-restart-clause-present : goal.returns-in_err-restart-clause-present
-returns-in_err-restart-clause-present g c = rw (err_from_is_err_and c.from_residual.result c.from_residual.ensures.1).1 tt
-
-pub returns-in_err-restart-clause-right : goal.returns-in_err-restart-clause-right
-returns-in_err-restart-clause-right g c = λ m stated. rw (err_from_is_err_and c.from_residual.result c.from_residual.ensures.1).1 tt
-
-pub returns-in_err-var-clause-ended : goal.returns-in_err-var-clause-ended
-returns-in_err-var-clause-ended g c = rw (err_from_is_err_and c.from_residual-in_err-var.result c.from_residual-in_err-var.ensures.1).1 tt
-
-pub returns-in_err-var-clause-variables : goal.returns-in_err-var-clause-variables
-returns-in_err-var-clause-variables g c = rw (err_from_is_err_and c.from_residual-in_err-var.result c.from_residual-in_err-var.ensures.1).1 tt
-
-pub returns-in_err-var-clause-names : goal.returns-in_err-var-clause-names
-returns-in_err-var-clause-names g c = rw (err_from_is_err_and c.from_residual-in_err-var.result c.from_residual-in_err-var.ensures.1).1 tt
-
-pub returns-in_err-var-clause-present : goal.returns-in_err-var-clause-present
-returns-in_err-var-clause-present g c = rw (err_from_is_err_and c.from_residual-in_err-var.result c.from_residual-in_err-var.ensures.1).1 tt
-
-pub returns-in_err-var-clause-right : goal.returns-in_err-var-clause-right
-returns-in_err-var-clause-right g c = λ m stated. rw (err_from_is_err_and c.from_residual-in_err-var.result c.from_residual-in_err-var.ensures.1).1 tt
-
-pub returns-in_err-var-clause-memory : goal.returns-in_err-var-clause-memory
-returns-in_err-var-clause-memory g c =
-    let returned = err_from_is_err_and c.from_residual-in_err-var.result c.from_residual-in_err-var.ensures.1 in
-    rw (returned.1, returned.2) c.in_err-var.ensures.fault
+pub returns-in_err-var : goal.returns-in_err-var
+returns-in_err-var g c =
+    let handed = err_from_is_err_and c.from_residual-in_err-var.result c.from_residual-in_err-var.ensures.1 in
+    rw handed.1 (record { ended = tt; right = λ m stated. tt; variables = tt; names = tt; present = tt; memory = handed.2 ∙ c.in_err-var.ensures.fault })
