@@ -1,4 +1,6 @@
 //! The table of the jobs of a service.
+use std::alloc::Global;
+use std::process::Abort;
 use std::test::Fail;
 use std::time::Duration;
 use tmem_bench::{Act, Callers, Figures, Line, Work};
@@ -36,23 +38,29 @@ fn a_line_has_a_column_for_each_figure(rt: HostRuntime) -> Result<(), Fail> {
         had: figures(Work::OnCore(Act::Transfer), 100, 0, 2000),
         baseline: None,
     };
-    let lines = [
-        (
-            beside,
-            "file    add, each awaited             16  one                  300      150         200    1.50",
-        ),
-        (
-            alone,
-            "file    open 1024 variables            1  none                   3        0          12    0.25",
-        ),
-        (
-            core,
-            "core    transfer                       1  none                  50        0           -       -",
-        ),
-    ];
-    for (line, columns) in lines {
-        let text = format!(in rt.alloc(); "{line}")?;
-        assert!(rt; text.as_str() == columns, "{text}");
-    }
+    let alloc = rt.alloc();
+    must_show(
+        &rt,
+        alloc,
+        beside,
+        "file    add, each awaited             16  one                  300      150         200    1.50",
+    )?;
+    must_show(
+        &rt,
+        alloc,
+        alone,
+        "file    open 1024 variables            1  none                   3        0          12    0.25",
+    )?;
+    must_show(
+        &rt,
+        alloc,
+        core,
+        "core    transfer                       1  none                  50        0           -       -",
+    )
+}
+
+fn must_show(rt: &impl Abort, alloc: Global, line: Line, columns: &str) -> Result<(), Fail> {
+    let text = format!(in alloc; "{line}")?;
+    assert!(rt; text.as_str() == columns, "{text}");
     Ok(())
 }

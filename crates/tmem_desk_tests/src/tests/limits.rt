@@ -1,7 +1,7 @@
 //! As many requests wait as may, as many transactions are kept, and more of them commit in one piece than may be undurable.
 use super::store::{Case, ServedBy, serve_case};
 use std::alloc::Global;
-use std::io::Write;
+use std::io::{self, Write};
 use std::process::Abort;
 use std::sync::Wait;
 use std::test::Fail;
@@ -9,8 +9,12 @@ use std::test::Fail;
 #[test]
 fn one_more_waits_than_may(rt: HostRuntime) -> Result<(), Fail> {
     let alloc = rt.alloc();
-    let mut piece = Vec::new(alloc);
-    let mut wanted = Vec::new(alloc);
+    let (mut piece, mut wanted) = (Vec::new(alloc), Vec::new(alloc));
+    write_waiting(&mut piece, &mut wanted)?;
+    serve_text(&rt, alloc, piece, wanted)
+}
+
+fn write_waiting(piece: &mut Vec<u8>, wanted: &mut Vec<u8>) -> io::Result<()> {
     for id in 0..1025 {
         writeln!(piece, "{{\"id\":{id},\"changed\":[[2,0]]}}")?;
     }
@@ -18,27 +22,46 @@ fn one_more_waits_than_may(rt: HostRuntime) -> Result<(), Fail> {
     for id in 0..1024 {
         writeln!(wanted, "{{\"id\":{id},\"fault\":3,\"word\":\"closed\"}}")?;
     }
-    serve_text(&rt, alloc, piece, wanted)
+    Ok(())
 }
 
 #[test]
 fn one_more_is_kept_than_may(rt: HostRuntime) -> Result<(), Fail> {
     let alloc = rt.alloc();
-    let mut piece = Vec::new(alloc);
-    let mut wanted = Vec::new(alloc);
+    let (mut piece, mut wanted) = (Vec::new(alloc), Vec::new(alloc));
+    write_kept(&mut piece, &mut wanted)?;
+    for (asked, told) in BEHIND_KEPT {
+        write_line(&mut piece, asked)?;
+        write_line(&mut wanted, told)?;
+    }
+    serve_text(&rt, alloc, piece, wanted)
+}
+
+/// What is asked once as many are kept as may be, and what is told.
+const BEHIND_KEPT: &[(&str, &str)] = &[
+    (
+        r#"{"id":256,"keep":["z","skip"]}"#,
+        r#"{"id":256,"fault":5,"word":"full"}"#,
+    ),
+    (
+        r#"{"id":257,"keep":["pp",{"abort":7}]}"#,
+        r#"{"id":257,"kept":"pp"}"#,
+    ),
+    (r#"{"id":258,"run":"pp"}"#, r#"{"id":258,"aborted":7}"#),
+];
+
+fn write_line(out: &mut Vec<u8>, line: &str) -> io::Result<()> {
+    writeln!(out, "{line}")
+}
+
+fn write_kept(piece: &mut Vec<u8>, wanted: &mut Vec<u8>) -> io::Result<()> {
     for id in 0..=u8::MAX {
         let word = [b'a' + id / 16, b'a' + id % 16];
         let word = std::str::from_utf8(&word).unwrap_or("");
         writeln!(piece, "{{\"id\":{id},\"keep\":[\"{word}\",\"skip\"]}}")?;
         writeln!(wanted, "{{\"id\":{id},\"kept\":\"{word}\"}}")?;
     }
-    writeln!(piece, "{{\"id\":256,\"keep\":[\"z\",\"skip\"]}}")?;
-    writeln!(wanted, "{{\"id\":256,\"fault\":5,\"word\":\"full\"}}")?;
-    writeln!(piece, "{{\"id\":257,\"keep\":[\"pp\",{{\"abort\":7}}]}}")?;
-    writeln!(wanted, "{{\"id\":257,\"kept\":\"pp\"}}")?;
-    writeln!(piece, "{{\"id\":258,\"run\":\"pp\"}}")?;
-    writeln!(wanted, "{{\"id\":258,\"aborted\":7}}")?;
-    serve_text(&rt, alloc, piece, wanted)
+    Ok(())
 }
 
 // 256 are committed that are not durable, so that the last one meets no room
@@ -72,21 +95,25 @@ fn commit_all<R: Abort + Wait>(rt: &R, alloc: Global, asked: &str) -> Result<(),
 fn what_is_durable_is_told_where_a_later_flush_fails(rt: HostRuntime) -> Result<(), Fail> {
     let alloc = rt.alloc();
     for fails in 0..6u64 {
-        let durable = fails / 2 * 64;
-        let mut piece = Vec::new(alloc);
-        let mut wanted = Vec::new(alloc);
-        for id in 0..330u64 {
-            writeln!(piece, "{{\"id\":{id},\"do\":{{\"write\":[2,0]}}}}")?;
-            if id < durable {
-                writeln!(
-                    wanted,
-                    "{{\"id\":{id},\"committed\":{id},\"registers\":[]}}"
-                )?;
-            } else {
-                writeln!(wanted, "{{\"id\":{id},\"fault\":4,\"word\":\"unknown\"}}")?;
-            }
-        }
+        let (mut piece, mut wanted) = (Vec::new(alloc), Vec::new(alloc));
+        write_where(fails / 2 * 64, &mut piece, &mut wanted)?;
         serve_where(&rt, alloc, Some(fails), piece, wanted)?;
+    }
+    Ok(())
+}
+
+// So many are told as committed.
+fn write_where(durable: u64, piece: &mut Vec<u8>, wanted: &mut Vec<u8>) -> io::Result<()> {
+    for id in 0..330u64 {
+        writeln!(piece, "{{\"id\":{id},\"do\":{{\"write\":[2,0]}}}}")?;
+        if id < durable {
+            writeln!(
+                wanted,
+                "{{\"id\":{id},\"committed\":{id},\"registers\":[]}}"
+            )?;
+        } else {
+            writeln!(wanted, "{{\"id\":{id},\"fault\":4,\"word\":\"unknown\"}}")?;
+        }
     }
     Ok(())
 }

@@ -25,16 +25,17 @@ impl Write for Unflushed {
     }
 }
 
+const KINDS: &[ErrorKind] = &[
+    ErrorKind::BrokenPipe,
+    ErrorKind::PermissionDenied,
+    ErrorKind::StorageFull,
+];
+
 #[test]
 fn output_that_cannot_be_flushed_has_failed(rt: HostRuntime) -> Result<(), Fail> {
-    let kinds = [
-        ErrorKind::BrokenPipe,
-        ErrorKind::PermissionDenied,
-        ErrorKind::StorageFull,
-    ];
-    for kind in kinds {
+    for kind in KINDS {
         let mut out = Unflushed {
-            kind: Some(kind),
+            kind: Some(*kind),
             flushes: 0,
         };
         let flushed = flush_output(&mut out);

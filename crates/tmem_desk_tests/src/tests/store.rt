@@ -5,7 +5,7 @@ ghost use Rattle.tmem_front.specs.Held.{front_found, spine_of, front_steps, fron
 ghost use Rattle.tmem_builtins.specs.Invariants.{has_no_negative, is_negative};
 ghost use Rattle.tmem_desk_tests.specs.Examples.{solvent};
 
-use std::alloc::Global;
+use std::alloc::{AllocError, Global};
 use std::io::{self, Read, Write};
 use std::marker::Brand;
 use std::process::Abort;
@@ -86,17 +86,26 @@ pub(super) fn serve_all<R: Abort + Wait>(
 ) -> Result<(), Fail> {
     for case in cases {
         let printed = serve_case(rt, alloc, case, by);
-        let mut wanted = Vec::new(alloc);
-        for line in case.prints {
-            wanted.extend_from_slice(line.as_bytes())?;
-            wanted.push(b'\n')?;
-        }
-        let name = case.name;
-        let is_wanted = printed.as_slice() == wanted.as_slice();
-        let shown = String::from_utf8(printed);
-        assert!(rt; is_wanted, "{name}: {shown:?}");
+        let wanted = wanted_of(alloc, case)?;
+        must_be(rt, case.name, printed, &wanted);
     }
     Ok(())
+}
+
+// What is to be printed for a case.
+fn wanted_of(alloc: Global, case: &Case) -> Result<Vec<u8>, AllocError> {
+    let mut wanted = Vec::new(alloc);
+    for line in case.prints {
+        wanted.extend_from_slice(line.as_bytes())?;
+        wanted.push(b'\n')?;
+    }
+    Ok(wanted)
+}
+
+fn must_be(rt: &impl Abort, name: &str, printed: Vec<u8>, wanted: &[u8]) {
+    let is_wanted = printed.as_slice() == wanted;
+    let shown = String::from_utf8(printed);
+    assert!(rt; is_wanted, "{name}: {shown:?}");
 }
 
 /// What is printed for a case.
