@@ -48,6 +48,10 @@ once_insert es k n d = subst (IsDistinct nat_eq) (sym (keys_insert_entry nat_eq 
   on true is = d
   on false is = IsDistinct-push nat_eq_equiv (keys_of es) k d is
 
+-- what stays as it was is within any room more
+pub same_within : (n more : ℕ) → n ≤ n + more
+same_within n more = omega arith
+
 pub length-write : (es : List (ℕ × ℤ)) (k : ℕ) (n : ℤ) → length (with_write es k n) ≤ length es + 1
 length-write [] k n = omega arith
 length-write (e ∷ es) k n = on (nat_eq k e.0) (length-write es k n) where
