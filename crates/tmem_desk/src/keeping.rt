@@ -14,8 +14,8 @@ use crate::naming::ServedNaming;
 use crate::ready::Ready;
 use crate::served::ServedStore;
 use tmem_answers::{Answer, Stats};
-use tmem_forms::{begins_with_puts, copy_of};
 use tmem_fault::{Fault, Name};
+use tmem_forms::{begins_with_puts, copy_of};
 use tmem_tree::Tx;
 
 /// The most transactions that are kept.
