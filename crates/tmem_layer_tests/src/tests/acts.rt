@@ -114,17 +114,18 @@ enum Store {
 pub(super) fn play(rt: &impl Abort, alloc: Global, acts: &[Act]) -> Result<(), Fail> {
     assert!(rt; each_case_has_a_row(acts), "a case has no row");
     let mut case = 0;
+    let mut name = "";
     for (index, act) in acts.iter().enumerate() {
-        if matches!(act, Act::Case(_)) {
-            case = index;
-        }
-        if matches!(act, Act::Row) {
-            let other = other_in_row(alloc, behind(acts, case), behind(acts, index))?;
-            assert!(rt;
-                other.is_none(),
-                "{}, row at act {index}: {other:?}",
-                name_at(acts, case)
-            );
+        match act {
+            Act::Case(named) => {
+                case = index;
+                name = *named;
+            }
+            Act::Row => {
+                let other = other_in_row(alloc, acts, case, index)?;
+                assert!(rt; other.is_none(), "{name}, row at act {index}: {other:?}");
+            }
+            _ => {}
         }
     }
     Ok(())
@@ -147,14 +148,6 @@ fn each_case_has_a_row(acts: &[Act]) -> bool {
     has_row
 }
 
-/// The name of the case that begins there.
-fn name_at<'a>(acts: &[Act<'a>], case: usize) -> &'a str {
-    match acts.get(case) {
-        Some(Act::Case(name)) => *name,
-        _ => "",
-    }
-}
-
 /// The acts behind a mark, up to the next one.
 fn behind<'b, 'a>(acts: &'b [Act<'a>], mark: usize) -> &'b [Act<'a>] {
     let begin = if mark < acts.len() {
@@ -172,15 +165,16 @@ fn behind<'b, 'a>(acts: &'b [Act<'a>], mark: usize) -> &'b [Act<'a>] {
     }
 }
 
-/// The index of the first act of a row that is answered otherwise.
-fn other_in_row<'a>(
+/// The index of the first act of a row that is answered otherwise, behind the marks of its case and of itself.
+fn other_in_row(
     alloc: Global,
-    first: &[Act<'a>],
-    rest: &[Act<'a>],
+    acts: &[Act],
+    case: usize,
+    row: usize,
 ) -> Result<Option<usize>, Fault> {
-    let mut acts = Vec::from_slice(alloc, first)?;
-    acts.extend_from_slice(rest)?;
-    first_other(alloc, &acts)
+    let mut both = Vec::from_slice(alloc, behind(acts, case))?;
+    both.extend_from_slice(behind(acts, row))?;
+    first_other(alloc, &both)
 }
 
 /// The index of the first act that is answered otherwise.

@@ -51,8 +51,7 @@ fn told_by_two<N: Naming>(
     requires core { core.old.committed ≡ [] }
     requires journal { journal.old.durable ≡ [] }
 {
-    let mut writer = spine.pass(core)?;
-    let mut reader = spine.pass(core)?;
+    let (mut writer, mut reader) = two_passes(spine, core)?;
     Some(told(spine, core, journal, &mut writer, &mut reader))
 }
 

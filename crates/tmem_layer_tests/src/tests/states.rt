@@ -61,13 +61,22 @@ fn after(
     if !is_committed(&mut state, &effect) {
         return Ok(None);
     }
-    let has = [
-        state.has(&numbered(0)?),
-        state.has(&numbered(1)?),
-        state.has(&numbered(63)?),
-        state.has(&numbered(64)?),
-    ];
+    let has = edges_of(&state)?;
     Ok(Some((state.count(), state.names().len(), has)))
+}
+
+/// Which of the names 0, 1, 63 and 64 are registered.
+fn edges_of(state: &State) -> Result<[bool; 4], Fault> {
+    Ok([
+        is_registered(state, 0)?,
+        is_registered(state, 1)?,
+        is_registered(state, 63)?,
+        is_registered(state, 64)?,
+    ])
+}
+
+fn is_registered(state: &State, n: u8) -> Result<bool, Fault> {
+    Ok(state.has(&numbered(n)?))
 }
 
 /// The numbers of the names that are checked and of those that are retired, and what a full state is after them.
