@@ -12,8 +12,8 @@ use Rattle.tmem_answers.specs.declared.answer.Answer.TheVariants as answer
 use Rattle.tmem_requests.specs.declared.request.RequestBody.{RequestBody}
 use Rattle.tmem_requests.specs.declared.request.RequestBody.TheVariants as ask
 use Rattle.tmem_forms.specs.TxForms.{tx_form}
-use Rattle.tmem_forms.specs.Leading.{first_puts}
-use Rattle.tmem_forms.specs.Numbering.{with_numbers}
+use Rattle.tmem_copies.specs.Leading.{first_puts}
+use Rattle.tmem_copies.specs.Numbering.{with_numbers}
 use Rattle.tmem_desk.specs.Asking.{Store}
 use Rattle.tmem_desk.specs.Desks.{DeskView}
 use Rattle.tmem_desk.specs.Keeping.{kept_under, with_kept}

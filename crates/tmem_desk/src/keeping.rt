@@ -1,6 +1,6 @@
 // Transactions that are kept, and run by a word.
 ghost use Rattle.std.specs.Prelude.{◌≡◌, ◌⊎◌, None, position, bytes_eq, OnOk, IfErr};
-ghost use Rattle.tmem_forms.specs.Numbering.{with_numbers};
+ghost use Rattle.tmem_copies.specs.Numbering.{with_numbers};
 ghost use Rattle.tmem_requests.specs.declared.request.RequestBody.TheVariants.{Do, Keep, Stats as StatsOf};
 ghost use Rattle.tmem_desk.specs.Asking.{store};
 ghost use Rattle.tmem_desk.specs.Failing.{LearnsOnly, OrMemory};
@@ -14,8 +14,8 @@ use crate::naming::ServedNaming;
 use crate::ready::Ready;
 use crate::served::ServedStore;
 use tmem_answers::{Answer, Stats};
+use tmem_copies::{begins_with_puts, copy_of};
 use tmem_fault::{Fault, Name};
-use tmem_forms::{begins_with_puts, copy_of};
 use tmem_tree::Tx;
 
 /// The most transactions that are kept.

@@ -1,6 +1,6 @@
 // The `Put`s that a transaction begins with.
 ghost use Rattle.std.specs.Prelude.{◌≡◌, ◌-◌, ◌≤◌, ◌↔◌, IsTrue};
-ghost use Rattle.tmem_forms.specs.Leading.{first_puts, is_puts};
+ghost use Rattle.tmem_copies.specs.Leading.{first_puts, is_puts};
 
 use tmem_tree::Tx;
 

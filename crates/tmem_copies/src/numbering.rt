@@ -2,8 +2,8 @@
 ghost use Rattle.std.specs.Prelude.{◌≡◌, ◌≤◌, ◌++◌, ℕ, List, length, drop};
 ghost use Rattle.tmem_tree.specs.Numbers.{numbers as numbers_of};
 ghost use Rattle.tmem_tree.specs.Plans.{FitsSteps, FitsVariables, FitsNames};
-ghost use Rattle.tmem_forms.specs.Leading.{first_puts};
-ghost use Rattle.tmem_forms.specs.Numbering.{with_numbers};
+ghost use Rattle.tmem_copies.specs.Leading.{first_puts};
+ghost use Rattle.tmem_copies.specs.Numbering.{with_numbers};
 
 use tmem_tree::Plan;
 
