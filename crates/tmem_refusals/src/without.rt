@@ -43,6 +43,24 @@ fn call_over<R: Print>(
             ensures { result ≡ is_not_negative values.now }
         { nonneg(values) },
     )?;
+    call_with(rt, alloc, disk, batch, bytes, footprint, test)
+}
+
+// The same, with the footprint of an invariant and its test too.
+fn call_with<R: Print>(
+    rt: &R,
+    alloc: Global,
+    disk: &mut SimDisk,
+    batch: &mut Batch,
+    bytes: &mut [u8],
+    footprint: Vec<u16>,
+    test: Test,
+) -> Result<(), Fault>
+    requires bytes { length bytes.old ≡ 4096 }
+    requires footprint { footprint.items ≡ 0 ∷ [] }
+    requires callable { MayCall (Test.pre test) 1 }
+    requires stated { HasMeaning (Test.post test) 1 }
+{
     say_line(rt, "device, batch, bytes, footprint and closure");
     call_on_device(rt, disk, batch, bytes)?;
     call_on_test(rt, alloc, footprint, test)
@@ -98,10 +116,13 @@ fn call_gates<R: Print>(rt: &R, disk: &mut SimDisk) {
     if disk.size() == 0 {
         return;
     }
-    let is_first = is_open(disk, 0) == Ok(true);
+    let is_first = matches!(is_open(disk, 0), Ok(true));
     let is_closed = close_gate(disk, 0).is_ok();
-    let is_second = is_open(disk, 0) == Ok(true);
-    let reads = reads_open(&[0xA5], 0);
+    let is_second = matches!(is_open(disk, 0), Ok(true));
+    say_gates(rt, is_first, is_closed, is_second, reads_open(&[0xA5], 0));
+}
+
+fn say_gates<R: Print>(rt: &R, is_first: bool, is_closed: bool, is_second: bool, reads: bool) {
     let _ = println!(rt;
         "open {is_first}, closed {is_closed}, open {is_second}, reads open {reads}"
     );
