@@ -11,11 +11,7 @@ pub(crate) fn are_alike(one: &Attempt, other: &Attempt) -> bool {
     one.ending == other.ending
         && one.registers == other.registers
         && are_read_alike(&one.reads, &other.reads)
-        && have_like_effects(one, other)
-}
-
-fn have_like_effects(one: &Attempt, other: &Attempt) -> bool {
-    one.effect.writes.as_slice() == other.effect.writes.as_slice()
+        && one.effect.writes.as_slice() == other.effect.writes.as_slice()
         && one.effect.names.as_slice() == other.effect.names.as_slice()
         && one.effect.retired.as_slice() == other.effect.retired.as_slice()
 }
@@ -26,15 +22,11 @@ pub(crate) fn are_read_alike(one: &Reads, other: &Reads) -> bool {
         return false;
     }
     for index in 0..one.len() {
-        if !is_read_alike(index, one, other) {
+        if one.get_index(index) != other.get_index(index) {
             return false;
         }
     }
     true
-}
-
-fn is_read_alike(index: usize, one: &Reads, other: &Reads) -> bool {
-    one.get_index(index) == other.get_index(index)
 }
 
 /// Prints an attempt, without the end of its line.

@@ -20,12 +20,15 @@ pub(crate) fn touch<W: Write>(
     out: &mut W,
 ) -> Result<(), PlayFailure> {
     match act {
-        Touch::Format(numbers) => tell(out, "formatted", formatted(disk, numbers)),
+        Touch::Format(numbers) => Ok(format_anew(disk, numbers, out)?),
         Touch::Recover(numbers) => recover(alloc, disk, numbers, out),
-        Touch::Restart => restart(disk, out),
-        Touch::Bytes(at, count) => show(alloc, disk, at, count, out),
+        Touch::Restart => Ok(restart(disk, out)?),
+        Touch::Bytes(at, count) => Ok(print_bytes(&read(alloc, disk, at, count)?, out)?),
         Touch::Write(at, bytes) => overwrite(disk, at, &bytes, out),
-        Touch::Copy(from, count, to) => copy(alloc, disk, from, count, to, out),
+        Touch::Copy(from, count, to) => {
+            let bytes = read(alloc, disk, from, count)?;
+            overwrite(disk, to, &bytes, out)
+        }
         armed => {
             arm(disk, armed);
             Ok(())
@@ -33,13 +36,12 @@ pub(crate) fn touch<W: Write>(
     }
 }
 
-// Prints what was done, or the fault.
-fn tell<W: Write>(out: &mut W, done: &str, outcome: Result<(), Fault>) -> Result<(), PlayFailure> {
-    match outcome {
-        Ok(()) => writeln!(out, "{done}")?,
-        Err(fault) => print_fault(fault, out)?,
+// Formats a device, and says so, or prints the fault.
+fn format_anew<W: Write>(disk: &mut SimDisk, numbers: Numbers, out: &mut W) -> io::Result<()> {
+    match format(disk, numbers.vars, numbers.slots) {
+        Ok(()) => out.write_all(b"formatted\n"),
+        Err(fault) => print_fault(fault, out),
     }
-    Ok(())
 }
 
 // Arms a crash or a failure.
@@ -53,10 +55,6 @@ fn arm(disk: &mut SimDisk, act: Touch) {
         Touch::CrashNow(fill) => disk.stop_now(fill),
         _ => {}
     }
-}
-
-fn formatted(disk: &mut SimDisk, numbers: Numbers) -> Result<(), Fault> {
-    format(disk, numbers.vars, numbers.slots)
 }
 
 // Opens a journal, and prints how many transactions it found.
@@ -90,53 +88,30 @@ fn recovered(alloc: Global, disk: &mut SimDisk, numbers: Numbers) -> Result<u64,
 }
 
 // Starts a device again, and says whether it had crashed.
-fn restart<W: Write>(disk: &mut SimDisk, out: &mut W) -> Result<(), PlayFailure> {
-    let is_crashed = disk.is_crashed();
-    if is_crashed {
+fn restart<W: Write>(disk: &mut SimDisk, out: &mut W) -> io::Result<()> {
+    let line: &[u8] = if disk.is_crashed() {
         disk.restart();
-    }
-    let line: &[u8] = if is_crashed {
         b"restarted\n"
     } else {
         b"not crashed\n"
     };
-    out.write_all(line)?;
-    Ok(())
+    out.write_all(line)
 }
 
-// Prints bytes of a device.
-fn show<W: Write>(
-    alloc: Global,
-    disk: &mut SimDisk,
-    at: u64,
-    count: u64,
-    out: &mut W,
-) -> Result<(), PlayFailure> {
-    let bytes = read(alloc, disk, at, count)?;
-    print_bytes(&bytes, out)?;
-    Ok(())
-}
-
+// Writes bytes, and syncs. The row is bad where the device has no place for them.
 fn overwrite<W: Write>(
     disk: &mut SimDisk,
     at: u64,
     bytes: &[u8],
     out: &mut W,
 ) -> Result<(), PlayFailure> {
-    let written = write(disk, at, bytes)?;
-    tell(out, "written", written)
-}
-
-fn copy<W: Write>(
-    alloc: Global,
-    disk: &mut SimDisk,
-    from: u64,
-    count: u64,
-    to: u64,
-    out: &mut W,
-) -> Result<(), PlayFailure> {
-    let bytes = read(alloc, disk, from, count)?;
-    overwrite(disk, to, &bytes, out)
+    if !has_range(disk, at, bytes.len() as u64) {
+        return Err(PlayFailure::NoRow);
+    }
+    if disk.write_at(at, bytes).is_err() || disk.sync().is_err() {
+        return Ok(print_fault(Fault::Device, out)?);
+    }
+    Ok(out.write_all(b"written\n")?)
 }
 
 // Whether a device has so many bytes from a place on.
@@ -160,17 +135,6 @@ fn read(alloc: Global, disk: &mut SimDisk, at: u64, count: u64) -> Result<Vec<u8
         Ok(()) => Ok(bytes),
         Err(_) => Err(PlayFailure::Refused(Fault::Device)),
     }
-}
-
-// Writes bytes, and syncs.
-fn write(disk: &mut SimDisk, at: u64, bytes: &[u8]) -> Result<Result<(), Fault>, PlayFailure> {
-    if !has_range(disk, at, bytes.len() as u64) {
-        return Err(PlayFailure::NoRow);
-    }
-    if disk.write_at(at, bytes).is_err() || disk.sync().is_err() {
-        return Ok(Err(Fault::Device));
-    }
-    Ok(Ok(()))
 }
 
 // Prints bytes in hexadecimal.

@@ -11,7 +11,8 @@ use tmem_forms::FormError;
 #[derive(Drop)]
 pub(crate) struct Draft {
     alloc: Global,
-    numbers: Numbers,
+    /// The numbers that the row begins with.
+    pub(crate) numbers: Numbers,
     acts: Vec<RowAct>,
     opening: Option<(Handed, Numbers)>,
     parts: Vec<RowPart>,
@@ -29,11 +30,6 @@ impl Draft {
             parts: Vec::new(alloc),
             events: Events::new(alloc),
         }
-    }
-
-    /// The numbers that the row begins with.
-    pub(crate) fn numbers(&self) -> Numbers {
-        self.numbers
     }
 
     pub(crate) fn add_event(&mut self, event: Event) -> Result<(), FormError>

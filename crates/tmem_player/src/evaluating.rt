@@ -69,7 +69,7 @@ fn holds(probe: &Probe) -> bool {
 // The attempt that one way comes to, or none where what it read is not what it was given.
 type Trial = Option<Attempt>;
 
-// Evaluates a plan in both ways.
+// Evaluates a plan in both ways, and prints what they come to.
 fn evaluate_plan<S: StoredSteps, W: Write>(
     alloc: Global,
     plan: &Plan,
@@ -82,24 +82,9 @@ fn evaluate_plan<S: StoredSteps, W: Write>(
 {
     let _ = calls.take_steps();
     let plain = by_evaluate(alloc, plan, steps, values, calls, out)?;
-    evaluate_again(alloc, plan, values, steps, calls, &plain, out)
-}
-
-// Evaluates a plan by a cursor too, and prints what both ways come to.
-fn evaluate_again<S: StoredSteps, W: Write>(
-    alloc: Global,
-    plan: &Plan,
-    values: &[i64],
-    steps: &S,
-    calls: &CallCounts,
-    plain: &Trial,
-    out: &mut W,
-) -> Result<(), PlayFailure>
-    requires { FitsSteps (S.arities steps.now) plan.now.tree }
-{
     let by_plain = calls.take_steps();
     let other = by_cursor(alloc, plan, steps, values, out)?;
-    print_trials(plain, &other, (by_plain, calls.take_steps()), out)
+    print_trials(&plain, &other, (by_plain, calls.take_steps()), out)
 }
 
 // Prints the attempt that both ways come to, and how often each called a stored step; or that they differ.
@@ -109,22 +94,14 @@ fn print_trials<W: Write>(
     calls: (u64, u64),
     out: &mut W,
 ) -> Result<(), PlayFailure> {
-    match both_ways(plain, other) {
-        Some(attempt) => {
+    match (plain, other) {
+        (Some(attempt), Some(other)) if are_alike(attempt, other) => {
             print_attempt(attempt, out)?;
             writeln!(out, " calls={},{}", calls.0, calls.1)?;
         }
-        None => out.write_all(b"differ\n")?,
+        _ => out.write_all(b"differ\n")?,
     }
     Ok(())
-}
-
-// The attempt that both ways come to, or none where they differ.
-fn both_ways<'a>(plain: &'a Trial, other: &Trial) -> Option<&'a Attempt> {
-    match (plain, other) {
-        (Some(attempt), Some(other)) if are_alike(attempt, other) => Some(attempt),
-        _ => None,
-    }
 }
 
 // The value of a variable.
@@ -286,22 +263,8 @@ fn by_cursor<S: StoredSteps, W: Write>(
     requires { FitsSteps (S.arities steps.now) plan.now.tree }
 {
     let mut cursor = new_cursor(alloc, plan, out)?;
-    go_on(&mut cursor, plan, steps, values, out)
-}
-
-// Lets a cursor go on to the end.
-fn go_on<S: StoredSteps, W: Write>(
-    cursor: &mut Cursor,
-    plan: &Plan,
-    steps: &S,
-    values: &[i64],
-    out: &mut W,
-) -> Result<Trial, PlayFailure>
-    requires steps { FitsSteps (S.arities steps.now) plan.now.tree }
-    requires stands { (m : StepMeanings) → S.is_stated steps.now m → StandsIn m plan.now cursor.old }
-{
     for _ in 0..=MAX_TURNS {
-        let trial = gone_on(cursor, plan, steps, values, out)?;
+        let trial = gone_on(&mut cursor, plan, steps, values, out)?;
         if trial.is_some() {
             return Ok(trial);
         }

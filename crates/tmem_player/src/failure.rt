@@ -33,13 +33,14 @@ impl PlayFailure {
 
 impl fmt::Display for PlayFailure {
     fn fmt<W: fmt::Write>(&self, f: &mut fmt::Formatter<W>) -> fmt::Result {
-        match self {
-            PlayFailure::Words => write!(f, "say step or play"),
-            PlayFailure::NoRow => write!(f, "bad row"),
-            PlayFailure::NoSession => write!(f, "bad row: events for a world that was not opened"),
-            PlayFailure::Refused(fault) => write!(f, "{fault}"),
-            PlayFailure::Io => write!(f, "input or output failed"),
-        }
+        let text = match self {
+            PlayFailure::Words => "say step or play",
+            PlayFailure::NoRow => "bad row",
+            PlayFailure::NoSession => "bad row: events for a world that was not opened",
+            PlayFailure::Refused(fault) => return write!(f, "{fault}"),
+            PlayFailure::Io => "input or output failed",
+        };
+        f.write_str(text)
     }
 }
 

@@ -106,13 +106,7 @@ fn play_input<R: Read, W: Write>(
     input: &mut R,
     out: &mut W,
 ) -> Result<(), PlayFailure> {
-    let text = read_all(alloc, input)?;
-    play(alloc, mode, row_of(alloc, &text)?, out)
-}
-
-// Reads all that is left of the input.
-fn read_all<R: Read>(alloc: Global, input: &mut R) -> Result<Vec<u8>, PlayFailure> {
     let mut text = Vec::new(alloc);
     input.read_to_end(&mut text)?;
-    Ok(text)
+    play(alloc, mode, row_of(alloc, &text)?, out)
 }

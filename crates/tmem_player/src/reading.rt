@@ -10,7 +10,7 @@ use std::alloc::Global;
 use tmem_disk::{DeviceFault, Fill};
 use tmem_event::{ATTEMPTS, Event};
 use tmem_fault::Fault;
-use tmem_forms::{FormError, byte_of, pair_of, short_of, tx_of};
+use tmem_forms::{FormError, byte_of, integer_of, pair_of, short_of, tx_of};
 
 /// Reads a row: an object with the keys `vars`, `slots` and `events`, and no other.
 pub(crate) fn row_of(alloc: Global, text: &[u8]) -> Result<Row, PlayFailure> {
@@ -30,18 +30,11 @@ fn row_of_value(alloc: Global, value: &Value) -> Result<Row, FormError> {
 
 // The numbers of a row, and its entries.
 fn members_of(value: &Value) -> Option<(Numbers, &Vec<Value>)> {
-    if !has_three(value) {
+    if value.as_object()?.len() != 3 {
         return None;
     }
     let numbers = numbers_of(value.get("vars")?, value.get("slots")?)?;
     Some((numbers, value.get("events")?.as_array()?))
-}
-
-fn has_three(value: &Value) -> bool {
-    match value.as_object() {
-        Some(members) => members.len() == 3,
-        None => false,
-    }
 }
 
 fn add_entries(alloc: Global, entries: &[Value], draft: &mut Draft) -> Result<(), FormError> {
@@ -143,7 +136,7 @@ fn attempt_of(value: &Value) -> Result<u8, FormError>
 }
 
 fn add_opening(body: &Value, draft: &mut Draft) -> Result<(), FormError> {
-    let (handed, numbers) = opening_of(body, draft.numbers()).ok_or(FormError::NoForm)?;
+    let (handed, numbers) = opening_of(body, draft.numbers).ok_or(FormError::NoForm)?;
     draft.open(handed, numbers)
 }
 
@@ -168,24 +161,20 @@ fn handed_of(value: &Value) -> Option<Handed> {
 }
 
 fn add_evaluation(alloc: Global, body: &Value, draft: &mut Draft) -> Result<(), FormError> {
-    let job = evaluation_of(alloc, body)?;
-    draft.add_act(RowAct::Do(RowTask {
-        handed: Handed::None,
-        numbers: draft.numbers(),
-        job,
-    }))
-}
-
-fn evaluation_of(alloc: Global, body: &Value) -> Result<RowJob, FormError> {
     let (first, second) = pair_of(body)?;
     let values = values_of(alloc, first)?;
-    Ok(RowJob::Evaluate(values, tx_of(alloc, second)?))
+    let job = RowJob::Evaluate(values, tx_of(alloc, second)?);
+    draft.add_act(RowAct::Do(RowTask {
+        handed: Handed::None,
+        numbers: draft.numbers,
+        job,
+    }))
 }
 
 fn values_of(alloc: Global, value: &Value) -> Result<Vec<i64>, FormError> {
     let mut values = Vec::new(alloc);
     for item in items_of(value)? {
-        values.push(item.as_i64().ok_or(FormError::NoForm)?)?;
+        values.push(integer_of(item)?)?;
     }
     Ok(values)
 }
@@ -193,15 +182,11 @@ fn values_of(alloc: Global, value: &Value) -> Result<Vec<i64>, FormError> {
 // What is done to a device that needs no store.
 fn touch_of(alloc: Global, key: &str, body: &Value) -> Result<Touch, FormError> {
     if key == "write" {
-        return write_of(alloc, body);
+        let (at, bytes) = pair_of(body)?;
+        let at = at.as_u64().ok_or(FormError::NoForm)?;
+        return Ok(Touch::Write(at, bytes_of(alloc, bytes)?));
     }
     listed_touch_of(key, items_of(body)?).ok_or(FormError::NoForm)
-}
-
-fn write_of(alloc: Global, body: &Value) -> Result<Touch, FormError> {
-    let (at, bytes) = pair_of(body)?;
-    let at = at.as_u64().ok_or(FormError::NoForm)?;
-    Ok(Touch::Write(at, bytes_of(alloc, bytes)?))
 }
 
 fn listed_touch_of(key: &str, items: &[Value]) -> Option<Touch> {

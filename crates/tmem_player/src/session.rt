@@ -44,7 +44,7 @@ pub(crate) fn play_session<T: Invariants + Drop, W: Write>(
         Ok(mut session) => {
             let played = session.play_parts(alloc, mode, parts, calls, out);
             *disk = session.into_disk();
-            played
+            Ok(played?)
         }
         Err(fault) => refuse(fault, parts, out),
     }
@@ -95,7 +95,7 @@ impl<T: Invariants + Drop, S: StoredSteps + Drop> OpenWorld<T, S> {
         parts: &mut [RowPart],
         calls: &CallCounts,
         out: &mut W,
-    ) -> Result<(), PlayFailure>
+    ) -> io::Result<()>
         requires { HoldsSession self.old.world }
     {
         writeln!(out, "opened {}", self.world.count())?;
@@ -114,11 +114,11 @@ impl<T: Invariants + Drop, S: StoredSteps + Drop> OpenWorld<T, S> {
         part: &mut RowPart,
         calls: &CallCounts,
         out: &mut W,
-    ) -> Result<(), PlayFailure> {
+    ) -> io::Result<()> {
         match part {
-            RowPart::Show => Ok(self.show(out)?),
-            RowPart::Registers => Ok(print_registers(&self.registers, out)?),
-            RowPart::Calls => Ok(print_calls(calls, out)?),
+            RowPart::Show => self.show(out),
+            RowPart::Registers => print_registers(&self.registers, out),
+            RowPart::Calls => print_calls(calls, out),
             RowPart::Events(events) => {
                 let events = mem::replace(events, Events::new(alloc));
                 match mode {
@@ -130,18 +130,17 @@ impl<T: Invariants + Drop, S: StoredSteps + Drop> OpenWorld<T, S> {
     }
 
     // Plays events one by one.
-    fn step_all<W: Write>(&mut self, events: Events, out: &mut W) -> Result<(), PlayFailure> {
+    fn step_all<W: Write>(&mut self, events: Events, out: &mut W) -> io::Result<()> {
         let Events { list } = events;
         for event in list {
-            let reply = self.world.step(event);
-            tell(reply, &mut self.registers, out)?;
+            tell(self.world.step(event), &mut self.registers, out)?;
             out.flush()?;
         }
         Ok(())
     }
 
     // Plays events as one list. Where the list as a whole is refused, one line says so.
-    fn play_all<W: Write>(&mut self, events: Events, out: &mut W) -> Result<(), PlayFailure> {
+    fn play_all<W: Write>(&mut self, events: Events, out: &mut W) -> io::Result<()> {
         let Events { list } = events;
         match self.world.play(list) {
             Ok(replies) => {
@@ -156,16 +155,9 @@ impl<T: Invariants + Drop, S: StoredSteps + Drop> OpenWorld<T, S> {
 
     // Prints the present state.
     fn show<W: Write>(&self, out: &mut W) -> io::Result<()> {
-        if self.world.is_open() {
-            self.print_state(out)
-        } else {
-            print_fault(Fault::Closed, out)
+        if !self.world.is_open() {
+            return print_fault(Fault::Closed, out);
         }
-    }
-
-    fn print_state<W: Write>(&self, out: &mut W) -> io::Result<()>
-        requires { HoldsSession self.now.world }
-    {
         write!(out, "state count={} names=", self.world.count())?;
         self.print_names(out)?;
         self.print_values(out)
