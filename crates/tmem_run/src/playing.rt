@@ -1,8 +1,7 @@
 //! Plays a script on a device.
-ghost use Rattle.std.specs.Prelude.{◌≡◌, ◌⊎◌, [], ◌∷◌, None, IfErr, IfOk, IsSome, OnOk, OnErr, length, option_map};
+ghost use Rattle.std.specs.Prelude.{◌≡◌, ◌⊎◌, [], ◌∷◌, None, IfErr, IsSome, OnOk, OnErr, length, option_map};
 ghost use Rattle.std.specs.Io.KnownBytes.{Appends};
 ghost use Rattle.tmem_builtins.specs.Invariants.{is_not_negative, add_to_hundred, are_ordered};
-ghost use Rattle.tmem_invariants.specs.Answers.{MayCall, Gives};
 ghost use Rattle.tmem_record.specs.Layout.{IsLayout};
 ghost use Rattle.tmem_script.specs.declared.failure.ProgramFailure.TheVariants.{Output, Refused};
 ghost use Rattle.tmem_world.specs.Represents.{AreMeantBy, KeepsSetting, WritesInStore, numbers_of, world_view};
@@ -58,35 +57,8 @@ pub fn play<R: Files<File = File> + AllocGlobal, W: Write>(
     ensures failed { IfErr result (StopsPlaying (option_map (λ text. text.now) path.entry) device.new script.vars script.slots script.entries.items) }
     ensures withheld { IsSome path.entry → OnErr result (device.new ≡ None → out.new ≡ out.old) }
 {
+    let alloc = rt.alloc();
     let layout = Layout::new(script.vars, script.slots)?;
-    let (at_least_zero, a_hundred, in_order) = builtin_closures(rt.alloc())?;
-    let table = table_of(rt.alloc(), script.vars, at_least_zero, a_hundred, in_order)?;
-    play_with(
-        rt,
-        path,
-        layout,
-        script.entries,
-        table,
-        stored_steps(),
-        out,
-        device,
-        notes,
-    )
-}
-
-// The closure of an invariant.
-type Test = Box<dyn Fn(&[i64]) -> bool + Send>;
-
-// The closures of the builtin invariants, in the order in which `table_of` takes them.
-fn builtin_closures(alloc: Global) -> Result<(Test, Test, Test), Fault>
-    ensures nonneg_callable { IfOk result (λ tests. MayCall (Test.pre tests.0) 1) }
-    ensures nonneg_stated { IfOk result (λ tests. Gives (Test.post tests.0) 1 is_not_negative) }
-    ensures sum_callable { IfOk result (λ tests. MayCall (Test.pre tests.1) 2) }
-    ensures sum_stated { IfOk result (λ tests. Gives (Test.post tests.1) 2 add_to_hundred) }
-    ensures ordered_callable { IfOk result (λ tests. MayCall (Test.pre tests.2) 2) }
-    ensures ordered_stated { IfOk result (λ tests. Gives (Test.post tests.2) 2 are_ordered) }
-    ensures refused { IfErr result (λ fault. fault ≡ Fault.Memory) }
-{
     let at_least_zero = Box::new(
         alloc,
         |values: &[i64]| -> bool
@@ -108,7 +80,21 @@ fn builtin_closures(alloc: Global) -> Result<(Test, Test, Test), Fault>
             ensures { result ≡ are_ordered values.now }
         { ordered(values) },
     );
-    Ok((at_least_zero?, a_hundred?, in_order?))
+    let at_least_zero = at_least_zero.map_err(Fault::from)?;
+    let a_hundred = a_hundred.map_err(Fault::from)?;
+    let in_order = in_order.map_err(Fault::from)?;
+    let table = table_of(alloc, script.vars, at_least_zero, a_hundred, in_order)?;
+    play_with(
+        rt,
+        path,
+        layout,
+        script.entries,
+        table,
+        stored_steps(),
+        out,
+        device,
+        notes,
+    )
 }
 
 /// Plays the entries of a script, under these invariants and with these stored steps, on a fresh device in memory or on the
