@@ -9,7 +9,7 @@ run: $(UNPROVED)
 	@echo "This build was not proved: make build proves the program."
 	@$(UNPROVED) run "$(SCRIPT)" $(if $(DISK),--disk "$(DISK)") $(if $(EXPLAIN),--explain)
 
-$(UNPROVED): .ci/unproved crates.txt $(shell find crates -name '*.rt')
+$(UNPROVED): .ci/unproved crates.txt $(shell find crates -name out -prune -o -name '*.rt' -print)
 	@echo "Building the program without a proof, which takes one to three minutes" >&2
 	@mkdir -p $(@D)
 	@.ci/unproved tmem $@
