@@ -20,9 +20,11 @@ use std::fmt::Display;
 use std::fs::{File, Files};
 use std::io::{self, Write};
 use tmem_args::Asked;
-use tmem_explain::{CUT_OFF, Expected, flaws_in, is_cut_off, plan_flaw};
+use tmem_explain::{
+    CUT_OFF, CallCause, DeviceCause, Expected, FaultHelp, NumbersHelp, RefusalHelp, Wanted,
+    cause_of, flaws_in, is_cut_off, plan_flaw,
+};
 use tmem_fault::{Cause, Fault};
-use tmem_help::{CallCause, DeviceCause, FaultHelp, NumbersHelp, RefusalHelp, Wanted, cause_of};
 use tmem_init::InitError;
 use tmem_parts::block_of;
 use tmem_record::{Layout, MOST_SLOTS, MOST_VARS};

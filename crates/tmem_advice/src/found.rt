@@ -4,8 +4,8 @@ use std::alloc::Global;
 use std::fs::{self, File, Files};
 use std::os::unix::fs::FileTypeExt;
 use tmem_args::{Asked, JOBS_STORE};
+use tmem_explain::Wanted;
 use tmem_fault::Fault;
-use tmem_help::Wanted;
 use tmem_parts::block_of;
 use tmem_show::{Refusal, Source, length_without_loss, refusal_of};
 

@@ -1,7 +1,7 @@
 use Rattle.std.proofs.Common.{sym, subst}
 use Rattle.std.specs.Fmt.{HasWritten}
-use Rattle.tmem_help.specs.Helps.{numbers_help}
-use Rattle.tmem_help.proofs.numbers.NumbersHelpDisplay.fmt.Goals as goal
+use Rattle.tmem_explain.specs.Helps.{numbers_help}
+use Rattle.tmem_explain.proofs.numbers.NumbersHelpDisplay.fmt.Goals as goal
 
 pub returns-in-Limits-clause-writes : goal.returns-in-Limits-clause-writes
 returns-in-Limits-clause-writes g c = λ plain ok.

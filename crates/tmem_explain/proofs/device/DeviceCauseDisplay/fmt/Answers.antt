@@ -1,5 +1,5 @@
-use Rattle.tmem_help.proofs.device.DeviceCauseDisplay.fmt.Goals as goal
-use Rattle.tmem_help.proofs.device.DeviceCauseDisplay.fmt.Goals.{in-Empty, in-Locked, in-Folder, in-NoFile, in-Missing, in-DeadLink, in-There, in-NameInDoubt, in-MissingFolder, in-NoFolder, in-Slash, in-ClosedFolder, in-NoLinks, in-NoBytes, in-SecondName}
+use Rattle.tmem_explain.proofs.device.DeviceCauseDisplay.fmt.Goals as goal
+use Rattle.tmem_explain.proofs.device.DeviceCauseDisplay.fmt.Goals.{in-Empty, in-Locked, in-Folder, in-NoFile, in-Missing, in-DeadLink, in-There, in-NameInDoubt, in-MissingFolder, in-NoFolder, in-Slash, in-ClosedFolder, in-NoLinks, in-NoBytes, in-SecondName}
 
 -- Each text is written as it stands. (There are more of them than a search goes through at once.)
 pub returns-clause-writes : goal.returns-clause-writes

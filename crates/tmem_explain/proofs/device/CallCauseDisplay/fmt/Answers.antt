@@ -1,5 +1,5 @@
-use Rattle.tmem_help.proofs.device.CallCauseDisplay.fmt.Goals as goal
-use Rattle.tmem_help.proofs.device.CallCauseDisplay.fmt.Goals.{in-NoPermission, in-ReadOnly, in-NoRoom, in-LongName, in-Limit, in-Circle, in-DiskError, in-Other}
+use Rattle.tmem_explain.proofs.device.CallCauseDisplay.fmt.Goals as goal
+use Rattle.tmem_explain.proofs.device.CallCauseDisplay.fmt.Goals.{in-NoPermission, in-ReadOnly, in-NoRoom, in-LongName, in-Limit, in-Circle, in-DiskError, in-Other}
 
 -- Each text is written as it stands. (They are longer than a search goes through at once.)
 pub returns-clause-writes : goal.returns-clause-writes

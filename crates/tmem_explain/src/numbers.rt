@@ -1,7 +1,7 @@
 //! Which numbers a store has, beside those that were asked for.
 ghost use Rattle.std.specs.Prelude.{Some};
 ghost use Rattle.std.specs.Fmt.{DisplaysOnOk};
-ghost use Rattle.tmem_help.specs.Helps.{numbers_help};
+ghost use Rattle.tmem_explain.specs.Helps.{numbers_help};
 
 use std::fmt;
 use tmem_record::Layout;
@@ -42,7 +42,7 @@ pub enum NumbersHelp {
 
 impl NumbersHelp {
     ghost use Rattle.std.specs.Prelude.{◌≡◌};
-    ghost use Rattle.tmem_help.specs.Numbers.{new_numbers, store_numbers};
+    ghost use Rattle.tmem_explain.specs.Numbers.{new_numbers, store_numbers};
 
     /// Why a store of this layout is not in a file of so many bytes, whose block 0 has these numbers of variables and log slots, if it is
     /// that of a store: those are others, or the bytes are too few.

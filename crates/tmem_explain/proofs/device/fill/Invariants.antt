@@ -1,5 +1,5 @@
 use Rattle.std.proofs.Common.{◌-◌, ◌≤◌}
-use Rattle.tmem_help.proofs.device.fill.Given as goal
+use Rattle.tmem_explain.proofs.device.fill.Given as goal
 
 abbrev pub invariant-loop-done : goal.invariant-loop-done
 invariant-loop-done l = l.done ≤ l.size

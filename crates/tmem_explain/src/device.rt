@@ -2,7 +2,7 @@
 ghost use Rattle.std.specs.Prelude.{◌≡◌, ◌↔◌, ◌<◌, ◌≤◌, [], true, Some, IsTrue, IsOk, IfErr, IfSome};
 ghost use Rattle.std.specs.Fs.{IsDir};
 ghost use Rattle.std.specs.IoError.{error_kind, raw_os_error};
-ghost use Rattle.tmem_help.specs.Causes.{call_cause, last_byte, link_cause, may_be_told};
+ghost use Rattle.tmem_explain.specs.Causes.{call_cause, last_byte, link_cause, may_be_told};
 
 use std::fmt;
 use std::fs::{self, File, FileType, Files, OpenOptions, TryLockError};
@@ -93,7 +93,7 @@ impl CallCause {
 
 impl fmt::Display for CallCause {
     ghost use Rattle.std.specs.Prelude.{Some};
-    ghost use Rattle.tmem_help.specs.Causes.{call_help};
+    ghost use Rattle.tmem_explain.specs.Causes.{call_help};
 
     ghost output = { λ cause. Some (call_help cause) };
 
@@ -120,7 +120,7 @@ impl fmt::Display for CallCause {
 
 impl fmt::Display for DeviceCause {
     ghost use Rattle.std.specs.Prelude.{Some};
-    ghost use Rattle.tmem_help.specs.Causes.{device_help};
+    ghost use Rattle.tmem_explain.specs.Causes.{device_help};
 
     ghost output = { λ cause. Some (device_help cause) };
 

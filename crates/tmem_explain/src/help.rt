@@ -1,7 +1,7 @@
 //! What a fault means, and what to do.
 ghost use Rattle.std.specs.Prelude.{◌++◌, Some, codes};
 ghost use Rattle.std.specs.Fmt.{DisplaysOnOk};
-ghost use Rattle.tmem_help.specs.Helps.{fault_help};
+ghost use Rattle.tmem_explain.specs.Helps.{fault_help};
 
 use std::fmt;
 use tmem_answers::words_of;
@@ -13,7 +13,7 @@ pub struct FaultHelp(pub Fault);
 
 impl fmt::Display for FaultHelp {
     ghost use Rattle.std.specs.Prelude.{Some};
-    ghost use Rattle.tmem_help.specs.Helps.{fault_help};
+    ghost use Rattle.tmem_explain.specs.Helps.{fault_help};
 
     ghost output = { λ help. Some (fault_help help.0) };
 
@@ -86,7 +86,7 @@ pub struct RefusalHelp {
 
 impl fmt::Display for RefusalHelp {
     ghost use Rattle.std.specs.Prelude.{Some};
-    ghost use Rattle.tmem_help.specs.Helps.{refusal_help};
+    ghost use Rattle.tmem_explain.specs.Helps.{refusal_help};
 
     ghost output = { λ help. Some (refusal_help help) };
 

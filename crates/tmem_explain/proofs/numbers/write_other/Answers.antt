@@ -1,4 +1,4 @@
-use Rattle.tmem_help.proofs.numbers.write_other.Goals as goal
+use Rattle.tmem_explain.proofs.numbers.write_other.Goals as goal
 
 -- The text is written as it stands. (It is longer than a search goes through at once.)
 pub returns : goal.returns

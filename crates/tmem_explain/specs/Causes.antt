@@ -3,12 +3,12 @@ use Rattle.std.specs.Prelude.{ℤ, pos, Bool, true, false, if◌then◌else◌, 
 use Rattle.std.specs.Ordering.{int_eq}
 use Rattle.std.specs.declared.io.ErrorKind.{ErrorKind}
 use Rattle.std.specs.declared.io.ErrorKind.TheVariants as kind
-use Rattle.tmem_help.specs.declared.device.CallCause.{CallCause}
-use Rattle.tmem_help.specs.declared.device.CallCause.TheVariants as call
-use Rattle.tmem_help.specs.declared.device.DeviceCause.{DeviceCause}
-use Rattle.tmem_help.specs.declared.device.DeviceCause.TheVariants as cause
-use Rattle.tmem_help.specs.declared.device.Wanted.{Wanted}
-use Rattle.tmem_help.specs.declared.device.Wanted.TheVariants as wanted
+use Rattle.tmem_explain.specs.declared.device.CallCause.{CallCause}
+use Rattle.tmem_explain.specs.declared.device.CallCause.TheVariants as call
+use Rattle.tmem_explain.specs.declared.device.DeviceCause.{DeviceCause}
+use Rattle.tmem_explain.specs.declared.device.DeviceCause.TheVariants as cause
+use Rattle.tmem_explain.specs.declared.device.Wanted.{Wanted}
+use Rattle.tmem_explain.specs.declared.device.Wanted.TheVariants as wanted
 
 -- the system's number for an error of a disk is 5 (EIO)
 abbrev other_cause : Option ℤ → CallCause

@@ -1,5 +1,5 @@
-use Rattle.tmem_help.proofs.help.FaultHelpDisplay.fmt.Goals as goal
-use Rattle.tmem_help.proofs.help.FaultHelpDisplay.fmt.Goals.{in-Memory, in-Device, in-Closed, in-Unknown, in-Full, in-LogFull, in-Conflict, in-NotFormatted, in-Damaged, in-BadName, in-BadFootprint, in-Spent, in-NoSeat, in-Geometry}
+use Rattle.tmem_explain.proofs.help.FaultHelpDisplay.fmt.Goals as goal
+use Rattle.tmem_explain.proofs.help.FaultHelpDisplay.fmt.Goals.{in-Memory, in-Device, in-Closed, in-Unknown, in-Full, in-LogFull, in-Conflict, in-NotFormatted, in-Damaged, in-BadName, in-BadFootprint, in-Spent, in-NoSeat, in-Geometry}
 
 -- Each text is written as it stands. (They are longer than a search goes through at once.)
 pub returns-clause-writes : goal.returns-clause-writes

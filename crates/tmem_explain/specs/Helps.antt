@@ -4,9 +4,9 @@ use Rattle.std.specs.Fmt.{decimal}
 use Rattle.tmem_fault.specs.declared.fault.Fault.{Fault}
 use Rattle.tmem_fault.specs.declared.fault.Fault.TheVariants as fault
 use Rattle.tmem_answers.specs.Answers.{cause_text}
-use Rattle.tmem_help.specs.declared.help.RefusalHelp.{RefusalHelp}
-use Rattle.tmem_help.specs.declared.numbers.NumbersHelp.{NumbersHelp}
-use Rattle.tmem_help.specs.declared.numbers.NumbersHelp.TheVariants as numbers
+use Rattle.tmem_explain.specs.declared.help.RefusalHelp.{RefusalHelp}
+use Rattle.tmem_explain.specs.declared.numbers.NumbersHelp.{NumbersHelp}
+use Rattle.tmem_explain.specs.declared.numbers.NumbersHelp.TheVariants as numbers
 
 -- what went wrong, and what to do
 abbrev pub fault_help : Fault → List ℕ

@@ -1,8 +1,8 @@
 -- What is told of numbers of variables and log slots that do not fit.
 use Rattle.std.specs.Prelude.{ℕ, ◌&&◌, Bool, true, false, if◌then◌else◌, nat_eq, nat_lt, Option, Some, None}
 use Rattle.tmem_record.specs.Layout.{end_at}
-use Rattle.tmem_help.specs.declared.numbers.NumbersHelp.{NumbersHelp}
-use Rattle.tmem_help.specs.declared.numbers.NumbersHelp.TheVariants as numbers
+use Rattle.tmem_explain.specs.declared.numbers.NumbersHelp.{NumbersHelp}
+use Rattle.tmem_explain.specs.declared.numbers.NumbersHelp.TheVariants as numbers
 
 -- how many bytes there are, where a store of these numbers has more
 abbrev few_bytes : ℕ → ℕ → ℕ → Option NumbersHelp

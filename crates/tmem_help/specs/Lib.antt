@@ -1,3 +1,0 @@
-pub mod Causes
-pub mod Helps
-pub mod Numbers
