@@ -15,9 +15,9 @@ use Rattle.tmem_requests.specs.declared.request.RequestBody.TheVariants as ask
 use Rattle.tmem_desk.specs.Asking.{Store, IsPlanOf}
 use Rattle.tmem_desk.specs.Desks.{DeskView}
 use Rattle.tmem_desk.specs.Due.{answers_any_of, due_of, waits_of}
-use Rattle.tmem_copies.specs.Leading.{first_puts}
-use Rattle.tmem_copies.specs.Numbering.{with_numbers}
 use Rattle.tmem_desk.specs.Keeping.{kept_under, with_kept}
+use Rattle.tmem_desk.specs.Leading.{first_puts}
+use Rattle.tmem_desk.specs.Numbering.{with_numbers}
 use Rattle.tmem_desk.specs.Serving.{Takes, MayWait, HasNoPlan, Runs, RunsCopy, kept_as, RefusesLine, RefusesLong, Round, TriesNext, TriesFirst, Wakes, Finishes, tells, tried, tried_again, by, one_line_more, waits, without, cancelled, closed, with_closed}
 use Rattle.tmem_desk.specs.Steps.{Repeats}
 use Rattle.tmem_desk.specs.Told.{answer_told, refused, told_last}

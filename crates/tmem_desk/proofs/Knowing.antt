@@ -22,11 +22,11 @@ use Rattle.tmem_answers.specs.declared.answer.Answer.{Answer}
 use Rattle.tmem_answers.specs.declared.answer.Answer.TheVariants as answer
 use Rattle.tmem_requests.specs.declared.request.RequestBody.{RequestBody}
 use Rattle.tmem_requests.specs.declared.request.RequestBody.TheVariants as ask
-use Rattle.tmem_copies.specs.Leading.{first_puts}
-use Rattle.tmem_copies.specs.Numbering.{with_numbers}
 use Rattle.tmem_desk.specs.Asking.{Store, SettlesTx, IsNoPlan, IsPlanOf, EndsTold, Tries, AnswersAsk}
 use Rattle.tmem_desk.specs.Desks.{DeskView}
 use Rattle.tmem_desk.specs.Keeping.{kept_under, with_kept}
+use Rattle.tmem_desk.specs.Leading.{first_puts}
+use Rattle.tmem_desk.specs.Numbering.{with_numbers}
 use Rattle.tmem_desk.specs.Serving.{Takes, TakesLine, TakesText, TakesShort, MayWait, HasNoPlan, IsAnsweredAtOnce, Runs, RunsCopy, kept_as, RefusesLine, RefusesLong, Round, TriesNext, TriesFirst, Wakes, Finishes, tells, one_line_more, waits, without, cancelled}
 use Rattle.tmem_desk.specs.Steps.{Repeats}
 use Rattle.tmem_desk.specs.Told.{answer_told}

@@ -33,9 +33,9 @@ use Rattle.tmem_requests.specs.declared.request.RequestBody.TheVariants as ask
 use Rattle.tmem_desk.specs.Asking.{Store, SettlesTx, IsNoPlan, IsPlanOf, TellsEnding, TellsResult, EndsTold, SeesValues, Tries, AnswersAsk}
 use Rattle.tmem_desk.specs.Desks.{DeskView}
 use Rattle.tmem_desk.specs.Durable.{IsAmong, TellsAmong}
-use Rattle.tmem_copies.specs.Leading.{first_puts}
-use Rattle.tmem_copies.specs.Numbering.{with_numbers}
 use Rattle.tmem_desk.specs.Keeping.{kept_under, with_kept}
+use Rattle.tmem_desk.specs.Leading.{first_puts}
+use Rattle.tmem_desk.specs.Numbering.{with_numbers}
 use Rattle.tmem_desk.specs.Serving.{Takes, TakesLine, TakesText, TakesShort, TakesLast, MayWait, HasNoPlan, IsAnsweredAtOnce, Runs, RunsCopy, kept_as, RefusesLine, RefusesLong, Round, TriesNext, TriesFirst, Wakes, Finishes, tells, tried, tried_again, by, one_line_more, waits, without, cancelled, closed, with_closed}
 use Rattle.tmem_desk.specs.Steps.{LabelledSteps, Repeats}
 use Rattle.tmem_desk.specs.Failing.{TellsBehind}

@@ -6,10 +6,13 @@ mod Giving
 mod Indices
 mod Knowing
 mod Lasting
+mod LeadingPuts
 mod Lists
 mod Losing
+mod Numbers
 mod Sight
 mod StepLaws
+mod Subtrees
 mod Taking
 mod Telling
 mod Waking

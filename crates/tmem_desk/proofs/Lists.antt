@@ -12,11 +12,11 @@ use Rattle.tmem_answers.specs.declared.answer.Answer.TheVariants as answer
 use Rattle.tmem_requests.specs.declared.request.RequestBody.{RequestBody}
 use Rattle.tmem_requests.specs.declared.request.RequestBody.TheVariants as ask
 use Rattle.tmem_forms.specs.TxForms.{tx_form}
-use Rattle.tmem_copies.specs.Leading.{first_puts}
-use Rattle.tmem_copies.specs.Numbering.{with_numbers}
 use Rattle.tmem_desk.specs.Asking.{Store}
 use Rattle.tmem_desk.specs.Desks.{DeskView}
 use Rattle.tmem_desk.specs.Keeping.{kept_under, with_kept}
+use Rattle.tmem_desk.specs.Leading.{first_puts}
+use Rattle.tmem_desk.specs.Numbering.{with_numbers}
 use Rattle.tmem_desk.specs.Serving.{HasNoPlan, MayWait, Runs, RunsCopy, tells, tried, cancelled, kept_as, waits, without}
 use Rattle.tmem_desk.specs.Told.{answer_told}
 use Rattle.tmem_desk.proofs.Indices.{found_at, found_none, none_waits, first_waits, without_first, none_kept, first_kept, put_first, put_last}

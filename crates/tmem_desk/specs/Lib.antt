@@ -6,6 +6,8 @@ pub mod Durable
 pub mod Failing
 pub mod Held
 pub mod Keeping
+pub mod Leading
+pub mod Numbering
 pub mod Serving
 pub mod Steps
 pub mod Told

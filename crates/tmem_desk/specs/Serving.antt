@@ -23,9 +23,9 @@ use Rattle.tmem_forms.specs.TxForms.{tx_form}
 use Rattle.tmem_desk.specs.Asking.{Store, IsNoPlan, IsPlanOf, Tries, AnswersAsk}
 use Rattle.tmem_desk.specs.Counts.{counts_after}
 use Rattle.tmem_desk.specs.Desks.{DeskView}
-use Rattle.tmem_copies.specs.Leading.{first_puts}
-use Rattle.tmem_copies.specs.Numbering.{with_numbers}
 use Rattle.tmem_desk.specs.Keeping.{kept_under, with_kept}
+use Rattle.tmem_desk.specs.Leading.{first_puts}
+use Rattle.tmem_desk.specs.Numbering.{with_numbers}
 use Rattle.tmem_desk.specs.Steps.{LabelledSteps, Repeats}
 use Rattle.tmem_desk.specs.Told.{answer_told, refused, told_lines}
 use Rattle.tmem_desk.specs.declared.told.Told.{Told}

@@ -1,20 +1,21 @@
 // Transactions that are kept, and run by a word.
 ghost use Rattle.std.specs.Prelude.{◌≡◌, ◌⊎◌, None, position, bytes_eq, OnOk, IfErr};
-ghost use Rattle.tmem_copies.specs.Numbering.{with_numbers};
 ghost use Rattle.tmem_requests.specs.declared.request.RequestBody.TheVariants.{Do, Keep, Stats as StatsOf};
 ghost use Rattle.tmem_desk.specs.Asking.{store};
 ghost use Rattle.tmem_desk.specs.Failing.{LearnsOnly, OrMemory};
 ghost use Rattle.tmem_desk.specs.Held.{desk_view};
 ghost use Rattle.tmem_desk.specs.Keeping.{kept_under};
+ghost use Rattle.tmem_desk.specs.Numbering.{with_numbers};
 ghost use Rattle.tmem_desk.specs.Serving.{Takes, Runs, HasNoPlan, MayWait, kept_as};
 
+use crate::copying::copy_of;
 use crate::desk::Desk;
 use crate::held::WaitCondition;
+use crate::leading::begins_with_puts;
 use crate::naming::ServedNaming;
 use crate::ready::Ready;
 use crate::served::ServedStore;
 use tmem_answers::{Answer, Stats};
-use tmem_copies::{begins_with_puts, copy_of};
 use tmem_fault::{Fault, Name};
 use tmem_tree::Tx;
 

@@ -1,11 +1,11 @@
 // Plans of the store that is served.
 ghost use Rattle.std.specs.Prelude.{◌≡◌, length};
 ghost use Rattle.tmem_tree.specs.Plans.{FitsSteps, FitsVariables, FitsNames, FitsShapes};
-ghost use Rattle.tmem_copies.specs.Numbering.{with_numbers};
+ghost use Rattle.tmem_desk.specs.Numbering.{with_numbers};
 
 use crate::naming::ServedNaming;
+use crate::numbering::set_numbers;
 use std::marker::PhantomData;
-use tmem_copies::set_numbers;
 use tmem_tree::Plan;
 
 /// A plan of the store that is served: that it is one is a fact of its type, so that it may be kept.

@@ -2,10 +2,10 @@ use Rattle.std.proofs.Common.{◌≡◌, ℤ, w64, inl, inr, ap, ◌∙◌, subs
 use Rattle.std.proofs.lemmas.Int.{to_z-of_z}
 use Rattle.std.proofs.lemmas.Result.{on_ok_weaker}
 use Rattle.tmem_tree.specs.declared.tx.Tx.{Tx}
-use Rattle.tmem_copies.specs.Numbering.{with_numbers}
 use Rattle.tmem_requests.specs.declared.request.RequestBody.TheVariants.{Do}
 use Rattle.tmem_desk.specs.Asking.{store}
 use Rattle.tmem_desk.specs.Held.{desk_view}
+use Rattle.tmem_desk.specs.Numbering.{with_numbers}
 use Rattle.tmem_desk.specs.Serving.{HasNoPlan, MayWait}
 use Rattle.tmem_desk.proofs.Losing.{memory_only}
 use Rattle.tmem_desk.proofs.desk.Desk.run_copy.Goals as goal

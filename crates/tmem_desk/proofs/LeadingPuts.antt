@@ -7,7 +7,7 @@ use Rattle.tmem_tree.specs.declared.tx.Tx.{Tx, Row_of-Tx, end_of-Tx, more_of-Tx}
 use Rattle.tmem_tree.specs.declared.tx.Tx.TheVariants.{Seq}
 use Rattle.tmem_tree.specs.declared.tx.Tx.TheBlock.{items-the_row-Tx}
 use Rattle.tmem_tree.specs.declared.tx.Tx.TheViews.{the_lemmas}
-use Rattle.tmem_copies.specs.Leading.{is_puts, are_puts, first_puts, first_puts_in}
+use Rattle.tmem_desk.specs.Leading.{is_puts, are_puts, first_puts, first_puts_in}
 
 -- whether they are Puts alone
 abbrev pub all_puts : List Tx → Bool

@@ -1,7 +1,7 @@
 use Rattle.std.proofs.Common.{ap, ◌∙◌}
 use Rattle.tmem_forms.specs.TxForms.{tx_form}
-use Rattle.tmem_copies.proofs.Held.{falls_to_item, falls_to_then, falls_to_other, falls_to_left, falls_to_right, same_seq, same_when, same_or_else, forms_more}
-use Rattle.tmem_copies.proofs.copying.+copy_of.Goals as goal
+use Rattle.tmem_desk.proofs.Subtrees.{falls_to_item, falls_to_then, falls_to_other, falls_to_left, falls_to_right, same_seq, same_when, same_or_else, forms_more}
+use Rattle.tmem_desk.proofs.copying.+copy_of.Goals as goal
 
 pub copy_of-requires : goal.copy_of-requires
 copy_of-requires t c = (falls_to_item c.args.tx.now c.in-Seq.txs c.deref-t-items.result.now c.loop-t.t-index c.t-item.result t c.in-Seq.is c.deref-t-items.ensures.value c.loop-t-test.true c.t-item.is c.decreases, tt)

@@ -2,8 +2,8 @@ use Rattle.std.proofs.Common.{◌≡◌, ℤ, pos, List, get_or, set, ◌∙◌,
 use Rattle.std.proofs.lemmas.Int.{to_z-of_z}
 use Rattle.std.proofs.lemmas.List.Edits.{sets}
 use Rattle.tmem_tree.specs.Numbers.{numbers}
-use Rattle.tmem_copies.proofs.Numbers.{tree_more, list_more, sets_first, few_first}
-use Rattle.tmem_copies.proofs.numbering.set_numbers.Goals as goal
+use Rattle.tmem_desk.proofs.Numbers.{tree_more, list_more, sets_first, few_first}
+use Rattle.tmem_desk.proofs.numbering.set_numbers.Goals as goal
 
 pub loop-index-preserved : goal.loop-index-preserved
 loop-index-preserved c =

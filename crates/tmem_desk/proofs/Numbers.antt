@@ -6,8 +6,8 @@ use Rattle.std.proofs.lemmas.List.Edits.{sets, sets-eq}
 use Rattle.tmem_tree.specs.declared.tx.Tx.{Tx, Row_of-Tx, end_of-Tx, more_of-Tx}
 use Rattle.tmem_tree.specs.declared.tx.Tx.TheVariants.{Seq', Put}
 use Rattle.tmem_tree.specs.Numbers.{numbers, numbers_in, with_number}
-use Rattle.tmem_copies.specs.Leading.{is_puts, first_puts, first_puts_in}
-use Rattle.tmem_copies.specs.Numbering.{with_numbers_from, with_numbers}
+use Rattle.tmem_desk.specs.Leading.{is_puts, first_puts, first_puts_in}
+use Rattle.tmem_desk.specs.Numbering.{with_numbers_from, with_numbers}
 
 -- one number more
 with_numbers_from-push : (index : ℕ) (ns : List ℤ) (n : ℤ) (tx : Tx) → with_numbers_from index (ns ++ n ∷ []) tx ≡ with_number (index + length ns) n (with_numbers_from index ns tx)

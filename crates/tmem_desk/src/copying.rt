@@ -8,7 +8,7 @@ use std::alloc::{AllocError, Global};
 use tmem_tree::Tx;
 
 /// The same transaction once more. Its only fault is want of memory.
-pub fn copy_of(alloc: Global, tx: &Tx) -> Result<Tx, AllocError>
+pub(crate) fn copy_of(alloc: Global, tx: &Tx) -> Result<Tx, AllocError>
     ensures { IfOk result (λ copy. tx_form copy ≡ tx_form tx.now) }
 {
     match tx {

@@ -1,7 +1,7 @@
 use Rattle.std.proofs.Common.{◌≡◌, ◌-◌, drop}
-use Rattle.tmem_copies.specs.Leading.{first_puts, is_puts}
-use Rattle.tmem_copies.proofs.LeadingPuts.{all_puts, leading}
-use Rattle.tmem_copies.proofs.leading.+puts_left.Given as goal
+use Rattle.tmem_desk.specs.Leading.{first_puts, is_puts}
+use Rattle.tmem_desk.proofs.LeadingPuts.{all_puts, leading}
+use Rattle.tmem_desk.proofs.leading.+puts_left.Given as goal
 
 -- the trees so far are Puts alone, and are counted
 abbrev pub invariant-loop-t : goal.invariant-loop-t

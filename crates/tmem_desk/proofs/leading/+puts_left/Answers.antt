@@ -1,7 +1,7 @@
 use Rattle.std.proofs.Common.{arith}
-use Rattle.tmem_copies.proofs.Held.{falls_to_item}
-use Rattle.tmem_copies.proofs.LeadingPuts.{is_puts-Seq, first_puts-Seq}
-use Rattle.tmem_copies.proofs.leading.+puts_left.Goals as goal
+use Rattle.tmem_desk.proofs.Subtrees.{falls_to_item}
+use Rattle.tmem_desk.proofs.LeadingPuts.{is_puts-Seq, first_puts-Seq}
+use Rattle.tmem_desk.proofs.leading.+puts_left.Goals as goal
 
 pub loop-t-init : goal.loop-t-init
 loop-t-init t c = record {

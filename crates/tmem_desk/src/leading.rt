@@ -1,11 +1,11 @@
 // The `Put`s that a transaction begins with.
 ghost use Rattle.std.specs.Prelude.{◌≡◌, ◌-◌, ◌≤◌, ◌↔◌, IsTrue};
-ghost use Rattle.tmem_copies.specs.Leading.{first_puts, is_puts};
+ghost use Rattle.tmem_desk.specs.Leading.{first_puts, is_puts};
 
 use tmem_tree::Tx;
 
 /// Whether a transaction begins with at least so many `Put`s.
-pub fn begins_with_puts(tx: &Tx, many: usize) -> bool
+pub(crate) fn begins_with_puts(tx: &Tx, many: usize) -> bool
     ensures { IsTrue result ↔ (many ≤ first_puts tx.now) }
 {
     puts_left(tx, many).0 == 0

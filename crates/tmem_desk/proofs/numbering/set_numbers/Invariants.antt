@@ -2,8 +2,8 @@ use Rattle.std.proofs.Common.{◌≡◌, ℕ, List, take}
 use Rattle.std.proofs.lemmas.List.Edits.{sets}
 use Rattle.tmem_tree.specs.Numbers.{numbers}
 use Rattle.tmem_tree.specs.Plans.{FitsSteps, FitsVariables, FitsNames}
-use Rattle.tmem_copies.specs.Numbering.{with_numbers}
-use Rattle.tmem_copies.proofs.numbering.set_numbers.Given as goal
+use Rattle.tmem_desk.specs.Numbering.{with_numbers}
+use Rattle.tmem_desk.proofs.numbering.set_numbers.Given as goal
 
 -- the numbers so far were taken
 abbrev pub invariant-loop-index : goal.invariant-loop-index

@@ -1,3 +1,0 @@
-mod Held
-mod LeadingPuts
-mod Numbers
