@@ -16,11 +16,11 @@ use Rattle.tmem_script.specs.declared.script.ScriptError.TheVariants as error
 use Rattle.tmem_bench.specs.declared.error.BenchError.{BenchError}
 use Rattle.tmem_bench.specs.declared.error.BenchError.TheVariants as bench
 use Rattle.tmem_bench.specs.Printed.{head, lines_wanted, printed}
-use Rattle.tmem_threads.specs.Counting.{AreTotals}
+use Rattle.tmem_bench.specs.Counting.{AreTotals}
+use Rattle.tmem_bench.specs.declared.totals.TheConstants.{VARS, SLOTS}
+use Rattle.tmem_bench.specs.declared.totals.Totals.{Totals}
+use Rattle.tmem_bench.specs.declared.workers.CountingWork.{CountingWork}
 use Rattle.tmem_file.specs.declared.disk.FileDisk.{FileDisk}
-use Rattle.tmem_threads.specs.declared.store.TheConstants.{VARS, SLOTS}
-use Rattle.tmem_threads.specs.declared.store.Totals.{Totals}
-use Rattle.tmem_threads.specs.declared.workers.Work.{Work}
 use Rattle.tmem_run.specs.declared.playing.Played.{Played}
 use Rattle.tmem_run.specs.Printed.{line}
 use Rattle.tmem_show.specs.Refusals.{TellsOf}
@@ -72,7 +72,7 @@ totals_text t = codes "committed " ++ decimal t.committed ++ codes "\nvalue " ++
 
 -- Workers counted up in a store that was opened in some state, and three totals were printed, of which the first is at
 -- most what the work allows.
-abbrev pub CountsUp : Work → Option Text → Option (List ℕ) → Option (List ℕ) → Type 0
+abbrev pub CountsUp : CountingWork → Option Text → Option (List ℕ) → Option (List ℕ) → Type 0
 CountsUp work disk before after =
     IsMadeAt disk × ((opening : State) × (totals : Totals) × AreTotals opening work totals × Appends before after (line (totals_text totals)))
 

@@ -3,7 +3,7 @@ use Rattle.std.specs.Prelude.{◌≡◌, ◌⊎◌, ℕ, List, Option, codes}
 use Rattle.clap.specs.Walk.{Text}
 use Rattle.tmem_script.specs.Statuses.{status_of}
 use Rattle.tmem_script.specs.declared.failure.ProgramFailure.{ProgramFailure}
-use Rattle.tmem_threads.specs.declared.workers.Work.{Work}
+use Rattle.tmem_bench.specs.declared.workers.CountingWork.{CountingWork}
 use Rattle.tmem_run.specs.declared.playing.Played.{Played}
 use Rattle.tmem_args.specs.CommandLine.{AsksToPlay, AsksToCount, AsksToBench, AsksToShow, AsksToInit, AsksToServe, AsksToCheck, AsksForHelp, AreNumbersIn, IsNumberIfAny, path_in, disk_in, text_in}
 use Rattle.tmem.specs.Checked.{HasFlaws, IsScriptThere}
@@ -17,7 +17,7 @@ FailsWith status IsRead disk device = (f : ProgramFailure) × (status_of f ≡ s
 
 -- as many workers counted up as the words say, as many turns, in the store that they name
 abbrev pub CountsAs : List Text → Option (List ℕ) → Option (List ℕ) → Type 0
-CountsAs words before after = (work : Work) × AreNumbersIn words work.workers work.turns × CountsUp work (disk_in words) before after
+CountsAs words before after = (work : CountingWork) × AreNumbersIn words work.workers work.turns × CountsUp work (disk_in words) before after
 
 -- the job was timed that the words name, or each
 abbrev pub TimesAs : List Text → Option (List ℕ) → Option (List ℕ) → Type 0

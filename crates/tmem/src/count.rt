@@ -1,7 +1,7 @@
 //! Lets threads count up in a new store.
 ghost use Rattle.std.specs.Prelude.{IfErr, IfOk, OnOk, option_map};
 ghost use Rattle.tmem_effect.specs.State.{State};
-ghost use Rattle.tmem_threads.specs.Counting.{AreTotals};
+ghost use Rattle.tmem_bench.specs.Counting.{AreTotals};
 ghost use Rattle.tmem.specs.Commands.{CountsUp, IsMadeAt, IsWhyNotCounted};
 
 use std::fmt;
@@ -11,10 +11,10 @@ use std::rt::Clock;
 use std::sync::Wait;
 use std::thread::Threads;
 use tmem_args::Counting;
+use tmem_bench::{CountingWork, SLOTS, Totals, VARS, count_up};
 use tmem_fault::Fault;
 use tmem_run::{Flushed, Notes, device_in_memory, flush_output, made_file, print_line};
 use tmem_script::ProgramFailure;
-use tmem_threads::{SLOTS, Totals, VARS, Work, count_up};
 use tmem_world::Layout;
 
 /// Lets threads count up, and prints their totals.
@@ -27,7 +27,7 @@ pub(crate) fn count_in_threads<W: Write>(
     ensures counted { OnOk result (CountsUp (record { workers = counting.entry.workers; turns = counting.entry.turns }) (option_map (λ text. text.now) counting.entry.disk) (W.contents out.old) (W.contents out.new)) }
     ensures failed { IfErr result IsWhyNotCounted }
 {
-    let work = Work {
+    let work = CountingWork {
         workers: counting.workers,
         turns: counting.turns,
     };
@@ -40,7 +40,7 @@ pub(crate) fn count_in_threads<W: Write>(
 // that this program had it open.
 fn count_on<R: Files<File = File> + AllocGlobal + Threads + Wait + Clock + Sync>(
     rt: &R,
-    work: Work,
+    work: CountingWork,
     path: Option<&str>,
     notes: &mut Notes,
 ) -> Result<Totals, Fault>

@@ -1,2 +1,4 @@
+mod Added
 mod Lines
 mod Single
+mod Summed

@@ -1,4 +1,5 @@
 pub mod Accounts
+pub mod Counting
 pub mod Printed
 pub mod Transactions
 pub mod Works

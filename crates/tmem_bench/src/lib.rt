@@ -1,11 +1,17 @@
-//! The jobs of a service, timed: the command `tmem bench`, by which an operator sizes a store.
+//! What threads do together: they count up, for the command `tmem threads`, and they do the jobs of a service, timed: the command
+//! `tmem bench`, by which an operator sizes a store.
 //!
-//! `jobs` says what callers do. `on_core` does it on the core alone. `service` lets threads do it beside a flusher, on a store that
-//! `store` opens. `device` makes the devices, `opening` opens a store again and again, and `run` runs every job and prints a
+//! Of the jobs, `jobs` says what callers do. `on_core` does it on the core alone. `service` lets threads do it beside a flusher, on a
+//! store that `store` opens. `device` makes the devices, `opening` opens a store again and again, and `run` runs every job and prints a
 //! line for each. The baseline of a job is what the same device does by two syncs alone. A `Line` is public for its test, in
 //! crate `tmem_desk_tests`.
+//!
+//! Threads that count up are workers that share a store, each adding 1 to one variable by transactions and awaiting each until it is
+//! durable, beside a flusher. `count_up`, in `totals`, opens a store, starts the threads, and answers what they did once all have ended.
+//! `workers` has the threads, and `counting` what each of them does with the store.
 #![tactic(auto)]
 
+mod counting;
 mod device;
 mod error;
 mod figures;
@@ -15,8 +21,12 @@ mod opening;
 mod run;
 mod service;
 mod store;
+mod totals;
+mod workers;
 
 pub use error::BenchError;
 pub use figures::{Figures, Line, Work};
 pub use jobs::{Act, Callers};
 pub use run::{JobsWanted, run_jobs};
+pub use totals::{SLOTS, Totals, VARS, count_up};
+pub use workers::CountingWork;

@@ -1,2 +1,0 @@
-mod Added
-mod Summed
