@@ -1,20 +1,20 @@
-//! Why a row is not played to its end.
+//! Why a row is not played to its end, or calls are not all made.
 
 use std::alloc::{AllocError, AllocFailed};
 use std::{fmt, io};
 use tmem_fault::Fault;
 use tmem_forms::FormError;
 
-/// Why a row was not played to its end. Its text is what the user is told.
+/// Why a row was not played to its end, or calls were not all made. Its text is what the user is told.
 #[derive(Clone, Copy)]
 pub(crate) enum PlayFailure {
-    /// The command line is another one than `step` or `play`.
+    /// The command line is empty, or has another word than `step`, `play` and `refusals`.
     Words,
     /// The input is no row.
     NoRow,
     /// There are events for a world that was not opened.
     NoSession,
-    /// A device was not made or not formatted, or memory did not suffice.
+    /// A device was not made or not formatted, a call had this fault, or memory did not suffice.
     Refused(Fault),
     /// The input was not read, or a line not printed.
     Io,
@@ -34,7 +34,7 @@ impl PlayFailure {
 impl fmt::Display for PlayFailure {
     fn fmt<W: fmt::Write>(&self, f: &mut fmt::Formatter<W>) -> fmt::Result {
         let text = match self {
-            PlayFailure::Words => "say step or play",
+            PlayFailure::Words => "say step, play or refusals",
             PlayFailure::NoRow => "bad row",
             PlayFailure::NoSession => "bad row: events for a world that was not opened",
             PlayFailure::Refused(fault) => return write!(f, "{fault}"),

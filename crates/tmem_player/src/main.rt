@@ -1,4 +1,6 @@
-//! `tmem_player`: plays a row of behavior, which is a JSON file beside its output. It is a tool for tests.
+//! `tmem_player`: plays a row of behavior, which is a JSON file beside its output, and makes calls that may be refused memory. It is a
+//! tool for tests. It does what each word of its command line says, one after another: `step` and `play` play a row, and `refusals`
+//! makes the calls.
 //!
 //! A row is a script of the program `tmem`, played on a device in memory that was formatted for its numbers. The device is
 //! opened first, as the program does, unless the row begins with an entry that ends a session. These entries are a row's own:
@@ -31,7 +33,7 @@
 //!
 //! `reading` reads a row, and `draft` puts its entries together. `device` does what they do with the device, `handing` makes the
 //! closures that a world is opened with, `session` plays the events, and `evaluating` evaluates transactions, whose
-//! `attempts` are compared and printed.
+//! `attempts` are compared and printed. `refusals` makes the calls.
 #![tactic(auto)]
 
 mod attempts;
@@ -44,16 +46,20 @@ mod handing;
 mod playing;
 mod printing;
 mod reading;
+mod refusals;
 mod row;
 mod session;
 
 use failure::PlayFailure;
 use playing::play;
 use reading::row_of;
+use refusals::make_calls;
 use std::alloc::Global;
 use std::env::{self, Env};
 use std::io::{BufWriter, Read, Write};
 use std::process::ExitCode;
+use std::rt::Clock;
+use std::sync::Wait;
 
 /// How the events of a row are played.
 #[derive(Clone, Copy)]
@@ -76,31 +82,53 @@ fn main(rt: HostRuntime) -> ExitCode {
     }
 }
 
-// Plays the row on the input.
-fn run<R: Read, W: Write>(
-    rt: &(impl Env + AllocGlobal),
-    input: &mut R,
+// Does what each word of the command line says, one after another.
+fn run<I: Read, W: Write, R: AllocGlobal + Clock + Env + Print + Wait>(
+    rt: &R,
+    input: &mut I,
     output: &mut W,
 ) -> Result<(), PlayFailure> {
-    let mode = mode_of(rt)?;
-    let mut out = BufWriter::new(rt.alloc(), output)?;
-    let played = play_input(rt.alloc(), mode, input, &mut out);
-    out.flush()?;
-    played
+    let mut words = env::args(rt)?;
+    let _ = words.next();
+    if words.len() == 0 {
+        return Err(PlayFailure::Words);
+    }
+    for word in words {
+        do_word(rt, &word, input, output)?;
+    }
+    Ok(())
 }
 
-// The one word of the command line.
-fn mode_of(rt: &(impl Env + AllocGlobal)) -> Result<Mode, PlayFailure> {
-    let word = env::args(rt)?.nth(1);
-    match word.as_deref() {
-        Some("step") => Ok(Mode::Step),
-        Some("play") => Ok(Mode::Play),
+// Does what a word of the command line says.
+fn do_word<I: Read, W: Write, R: AllocGlobal + Clock + Print + Wait>(
+    rt: &R,
+    word: &str,
+    input: &mut I,
+    output: &mut W,
+) -> Result<(), PlayFailure> {
+    match word {
+        "step" => play_input(rt.alloc(), Mode::Step, input, output),
+        "play" => play_input(rt.alloc(), Mode::Play, input, output),
+        "refusals" => Ok(make_calls(rt, rt.alloc())?),
         _ => Err(PlayFailure::Words),
     }
 }
 
-// Reads the row on the input, and plays it.
+// Plays the row on the input.
 fn play_input<R: Read, W: Write>(
+    alloc: Global,
+    mode: Mode,
+    input: &mut R,
+    output: &mut W,
+) -> Result<(), PlayFailure> {
+    let mut out = BufWriter::new(alloc, output)?;
+    let played = play_row(alloc, mode, input, &mut out);
+    out.flush()?;
+    played
+}
+
+// Reads the row on the input, and plays it.
+fn play_row<R: Read, W: Write>(
     alloc: Global,
     mode: Mode,
     input: &mut R,

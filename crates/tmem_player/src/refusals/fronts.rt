@@ -2,8 +2,8 @@
 ghost use Rattle.std.specs.Prelude.{◌≡◌, length};
 ghost use Rattle.tmem_tree.specs.Plans.{FitsSteps, FitsVariables, FitsNames, FitsShapes};
 
-use crate::printing::{say_fault, say_line, say_number};
-use crate::tasks::{TASKS, Task};
+use crate::refusals::printing::{say_fault, say_line, say_number};
+use crate::refusals::tasks::{TASKS, Task};
 use std::alloc::Global;
 use std::rt::Clock;
 use std::sync::Wait;

@@ -1,6 +1,6 @@
 use Rattle.tmem_front.specs.Held.{front_found, spine_of}
-use Rattle.tmem_refusals.specs.Stored.{stored}
-use Rattle.tmem_refusals.proofs.opening.open.Given as goal
+use Rattle.tmem_player.specs.Stored.{stored}
+use Rattle.tmem_player.proofs.refusals.opening.open.Given as goal
 
 -- the store that was just opened
 abbrev pub ghosts-with_front-N-Naming : goal.ghosts-with_front-N-Naming

@@ -1,4 +1,4 @@
--- What the store of these calls is opened with.
+-- What the store of the calls of `refusals` is opened with.
 use Rattle.std.specs.Prelude.{[], ◌∷◌, codes}
 use Rattle.tmem_builtins.specs.Builtins.{builtin_steps}
 use Rattle.tmem_builtins.specs.Invariants.{is_not_negative}

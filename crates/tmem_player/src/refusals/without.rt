@@ -3,8 +3,8 @@ ghost use Rattle.std.specs.Prelude.{◌≡◌, ◌∷◌, [], length};
 ghost use Rattle.tmem_builtins.specs.Invariants.{is_not_negative};
 ghost use Rattle.tmem_invariants.specs.Answers.{HasMeaning, MayCall};
 
-use crate::printing::say_line;
-use crate::store::{SLOTS, VARS, device};
+use crate::refusals::printing::say_line;
+use crate::refusals::store::{SLOTS, VARS, device};
 use std::alloc::Global;
 use tmem_builtins::nonneg;
 use tmem_disk::{Disk, SimDisk};

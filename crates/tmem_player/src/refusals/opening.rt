@@ -3,11 +3,11 @@ ghost use Rattle.std.specs.Prelude.{◌≡◌, length};
 ghost use Rattle.tmem_builtins.specs.Invariants.{is_not_negative};
 ghost use Rattle.tmem_invariants.specs.Answers.{MayCall, Gives};
 ghost use Rattle.tmem_front.specs.Held.{front_found, spine_of, front_steps, front_table};
-ghost use Rattle.tmem_refusals.specs.Stored.{stored};
+ghost use Rattle.tmem_player.specs.Stored.{stored};
 
-use crate::fronts::settle_all;
-use crate::printing::{say_fault, say_line, say_number};
-use crate::store::{SLOTS, VARS, content_of};
+use crate::refusals::fronts::settle_all;
+use crate::refusals::printing::{say_fault, say_line, say_number};
+use crate::refusals::store::{SLOTS, VARS, content_of};
 use std::alloc::Global;
 use std::marker::Brand;
 use std::rt::Clock;
