@@ -17,7 +17,7 @@ use Rattle.tmem_bench.specs.declared.error.BenchError.{BenchError}
 use Rattle.tmem_bench.specs.declared.error.BenchError.TheVariants as bench
 use Rattle.tmem_bench.specs.Printed.{head, lines_wanted, printed}
 use Rattle.tmem_bench.specs.Counting.{AreTotals}
-use Rattle.tmem_bench.specs.declared.totals.TheConstants.{VARS, SLOTS}
+use Rattle.tmem_bench.specs.declared.totals.TheConstants.{COUNTING_VARS, COUNTING_SLOTS}
 use Rattle.tmem_bench.specs.declared.totals.Totals.{Totals}
 use Rattle.tmem_bench.specs.declared.workers.CountingWork.{CountingWork}
 use Rattle.tmem_file.specs.declared.disk.FileDisk.{FileDisk}
@@ -64,7 +64,7 @@ IsWhyNotPlayed IsRead disk device f =
 -- With a path a file was made. (That the workers counted there is tested.)
 abbrev pub IsMadeAt : Option Text → Type 0
 IsMadeAt None = ⊤
-IsMadeAt (Some path) = (blank : FileDisk) × (made : FileDisk) × IsMade VARS SLOTS blank made
+IsMadeAt (Some path) = (blank : FileDisk) × (made : FileDisk) × IsMade COUNTING_VARS COUNTING_SLOTS blank made
 
 -- what threads did: how many transactions they were answered to have committed, the value of variable 0, and how many are durable
 abbrev pub totals_text : Totals → List ℕ

@@ -11,7 +11,7 @@ use std::rt::Clock;
 use std::sync::Wait;
 use std::thread::Threads;
 use tmem_args::Counting;
-use tmem_bench::{CountingWork, SLOTS, Totals, VARS, count_up};
+use tmem_bench::{COUNTING_SLOTS, COUNTING_VARS, CountingWork, Totals, count_up};
 use tmem_fault::Fault;
 use tmem_run::{Flushed, Notes, device_in_memory, flush_output, made_file, print_line};
 use tmem_script::ProgramFailure;
@@ -47,7 +47,7 @@ fn count_on<R: Files<File = File> + AllocGlobal + Threads + Wait + Clock + Sync>
     ensures made { IfOk result (λ _. IsMadeAt (option_map (λ text. text.now) path.entry)) }
     ensures totals { IfOk result (λ totals. (opening : State) × AreTotals opening work totals) }
 {
-    let layout = Layout::new(VARS, SLOTS)?;
+    let layout = Layout::new(COUNTING_VARS, COUNTING_SLOTS)?;
     match path {
         None => count_up(rt, rt.alloc(), device_in_memory(rt.alloc(), layout)?, work),
         Some(path) => {

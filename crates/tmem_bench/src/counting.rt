@@ -1,4 +1,4 @@
-// What the threads do with the store that they share.
+// What the threads that count up do with the store that they share.
 ghost use Rattle.std.specs.Prelude.{◌≡◌, ◌≤◌, ℕ, IfOk, IfErr};
 ghost use Rattle.tmem_fault.specs.declared.fault.Fault.TheVariants as fault;
 ghost use Rattle.tmem_seats.specs.Flushing.{IsFlusherRefusal};
@@ -16,7 +16,7 @@ use tmem_front::{Front, Gathering, Pass, StoreNaming};
 use tmem_invariants::Invariants;
 use tmem_tree::{Plan, StoredSteps};
 
-/// What the threads do with a store. The functions that start threads know no more of it.
+/// What threads that count up do with a store. The functions that start them know no more of it.
 pub(crate) trait CountingStore {
     /// One who was to add so often may be answered that so many were committed.
     ghost is_answer: { Self → ℕ → ℕ → Type 0 };

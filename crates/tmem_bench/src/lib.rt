@@ -1,5 +1,5 @@
-//! What threads do together: they count up, for the command `tmem threads`, and they do the jobs of a service, timed: the command
-//! `tmem bench`, by which an operator sizes a store.
+//! Threads that count up, for the command `tmem threads`; and the jobs of a service, timed, for the command `tmem bench`, by which an
+//! operator sizes a store.
 //!
 //! Of the jobs, `jobs` says what callers do. `on_core` does it on the core alone. `service` lets threads do it beside a flusher, on a
 //! store that `store` opens. `device` makes the devices, `opening` opens a store again and again, and `run` runs every job and prints a
@@ -28,5 +28,5 @@ pub use error::BenchError;
 pub use figures::{Figures, Line, Work};
 pub use jobs::{Act, Callers};
 pub use run::{JobsWanted, run_jobs};
-pub use totals::{SLOTS, Totals, VARS, count_up};
+pub use totals::{COUNTING_SLOTS, COUNTING_VARS, Totals, count_up};
 pub use workers::CountingWork;

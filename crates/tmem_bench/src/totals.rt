@@ -1,4 +1,4 @@
-// A store for the threads, from its opening to their totals.
+// A store for the threads that count up, from its opening to their totals.
 ghost use Rattle.std.specs.Prelude.{◌≡◌, ◌<◌, ◌≤◌, ◌∷◌, [], length, IfOk};
 ghost use Rattle.tmem_builtins.specs.Builtins.{builtin_steps, builtin_names, builtin_tests};
 ghost use Rattle.tmem_front.specs.Held.{front_found, spine_of, front_steps, front_table};
@@ -6,7 +6,7 @@ ghost use Rattle.tmem_seats.specs.Histories.{IsPossibleValue};
 ghost use Rattle.tmem_effect.specs.State.{State};
 ghost use Rattle.tmem_spine.specs.History.{count};
 ghost use Rattle.tmem_bench.specs.Counting.{AreTotals, counting};
-ghost use Rattle.tmem_bench.specs.declared.totals.TheConstants.{VARS};
+ghost use Rattle.tmem_bench.specs.declared.totals.TheConstants.{COUNTING_VARS};
 
 use crate::workers::{CountingWork, work_and_flush};
 use std::alloc::Global;
@@ -23,12 +23,12 @@ use tmem_tables::Table;
 use tmem_tree::StoredSteps;
 
 /// How many variables the store has in which threads count up.
-pub const VARS: u16 = 4;
+pub const COUNTING_VARS: u16 = 4;
 
 /// How many batches its log takes between two checkpoints.
-pub const SLOTS: u16 = 4;
+pub const COUNTING_SLOTS: u16 = 4;
 
-/// What the threads did.
+/// What the threads that counted up did.
 #[derive(Clone, Copy, Debug, PartialEq, Eq)]
 pub struct Totals {
     /// How many transactions the workers were answered to have committed.
@@ -49,7 +49,7 @@ pub fn count_up<R: Threads + Wait + Clock + Sync, D: Disk + Drop + Send>(
 ) -> Result<Totals, Fault>
     ensures { IfOk result (λ totals. (opening : State) × AreTotals opening work totals) }
 {
-    let table = Table::of(alloc, Vec::new(alloc), VARS)?;
+    let table = Table::of(alloc, Vec::new(alloc), COUNTING_VARS)?;
     open_and_count(rt, alloc, disk, table, stored_steps(), work)
 }
 
@@ -60,13 +60,13 @@ fn open_and_count<
     T: Invariants + Drop + Send,
     S: StoredSteps + Drop + Send + Sync,
 >(rt: &R, alloc: Global, disk: D, table: T, steps: S, work: CountingWork) -> Result<Totals, Fault>
-    requires vars { T.vars table ≡ VARS }
+    requires vars { T.vars table ≡ COUNTING_VARS }
     requires names { T.names table ≡ counting.names }
     requires tests { T.is_stated table counting.tests }
     requires steps { S.is_stated steps counting.steps }
     ensures { IfOk result (λ totals. (opening : State) × AreTotals opening work totals) }
 {
-    match OpenedFront::open(alloc, disk, VARS, SLOTS, table, steps) {
+    match OpenedFront::open(alloc, disk, COUNTING_VARS, COUNTING_SLOTS, table, steps) {
         Ok(opened) => count_opened::<Brand, D, T, S, R>(rt, alloc, opened, work),
         Err((fault, _disk)) => Err(fault),
     }
@@ -83,7 +83,7 @@ fn count_opened<
     requires spine { spine_of opened ≡ N.name }
     requires opening { front_found opened ≡ N.opening }
     requires program { N.program ≡ counting }
-    requires values { length (front_found opened).values ≡ VARS }
+    requires values { length (front_found opened).values ≡ COUNTING_VARS }
     requires names { T.names (front_table opened) ≡ counting.names }
     requires stated { T.is_stated (front_table opened) counting.tests }
     requires steps { S.is_stated (front_steps opened) counting.steps }

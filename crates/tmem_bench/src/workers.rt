@@ -1,4 +1,4 @@
-// The threads.
+// The threads that count up.
 ghost use Rattle.std.specs.Prelude.{◌≡◌, ◌<◌, ◌^◌, Err, IsOk, IfOk, IfErr, All, Contains};
 ghost use Rattle.tmem_bench.specs.Counting.{AreCounted, committed_together};
 
@@ -37,7 +37,7 @@ pub(crate) fn work_and_flush<F: CountingStore + Sync, R: Threads + Wait + Clock 
             let Ok(flusher) = scope.spawn(move || store.flush(rt, has_several)) else {
                 return Err(Fault::Memory);
             };
-            let committed = work_all(rt, alloc, store, work);
+            let committed = count_all(rt, alloc, store, work);
             store.close(rt);
             flusher.join(rt)?;
             committed
@@ -45,7 +45,7 @@ pub(crate) fn work_and_flush<F: CountingStore + Sync, R: Threads + Wait + Clock 
     )
 }
 
-fn work_all<F: CountingStore + Sync, R: Threads + Wait + Sync>(
+fn count_all<F: CountingStore + Sync, R: Threads + Wait + Sync>(
     rt: &R,
     alloc: Global,
     store: &F,

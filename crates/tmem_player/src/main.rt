@@ -1,6 +1,7 @@
 //! `tmem_player`: plays a row of behavior, which is a JSON file beside its output, and makes calls that may be refused memory. It is a
 //! tool for tests. It does what each word of its command line says, one after another: `step` and `play` play a row, and `refusals`
-//! makes the calls.
+//! makes the calls. Words are read as they come: what those before a wrong one printed stays, and only the first of `step` and `play` finds
+//! the row on the input.
 //!
 //! A row is a script of the program `tmem`, played on a device in memory that was formatted for its numbers. The device is
 //! opened first, as the program does, unless the row begins with an entry that ends a session. These entries are a row's own:
@@ -33,7 +34,7 @@
 //!
 //! `reading` reads a row, and `draft` puts its entries together. `device` does what they do with the device, `handing` makes the
 //! closures that a world is opened with, `session` plays the events, and `evaluating` evaluates transactions, whose
-//! `attempts` are compared and printed. `refusals` makes the calls.
+//! `attempts` are compared and printed. `refusals` makes the calls that may be refused memory.
 #![tactic(auto)]
 
 mod attempts;
@@ -114,11 +115,11 @@ fn do_word<I: Read, W: Write, R: AllocGlobal + Clock + Print + Wait>(
     }
 }
 
-// Plays the row on the input.
-fn play_input<R: Read, W: Write>(
+// Plays the row on the input, and prints what is buffered, also where it is bad.
+fn play_input<I: Read, W: Write>(
     alloc: Global,
     mode: Mode,
-    input: &mut R,
+    input: &mut I,
     output: &mut W,
 ) -> Result<(), PlayFailure> {
     let mut out = BufWriter::new(alloc, output)?;
@@ -128,10 +129,10 @@ fn play_input<R: Read, W: Write>(
 }
 
 // Reads the row on the input, and plays it.
-fn play_row<R: Read, W: Write>(
+fn play_row<I: Read, W: Write>(
     alloc: Global,
     mode: Mode,
-    input: &mut R,
+    input: &mut I,
     out: &mut W,
 ) -> Result<(), PlayFailure> {
     let mut text = Vec::new(alloc);

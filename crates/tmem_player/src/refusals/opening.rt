@@ -3,7 +3,7 @@ ghost use Rattle.std.specs.Prelude.{◌≡◌, length};
 ghost use Rattle.tmem_builtins.specs.Invariants.{is_not_negative};
 ghost use Rattle.tmem_invariants.specs.Answers.{MayCall, Gives};
 ghost use Rattle.tmem_front.specs.Held.{front_found, spine_of, front_steps, front_table};
-ghost use Rattle.tmem_player.specs.Stored.{stored};
+ghost use Rattle.tmem_player.specs.Refusals.{refusals_program};
 
 use crate::refusals::fronts::settle_all;
 use crate::refusals::printing::{say_fault, say_line, say_number};
@@ -97,9 +97,9 @@ fn open<T: Invariants + Drop, R: Clock + Print + Wait>(
     steps: BuiltinSteps,
 ) -> Result<Option<(Fault, SimDisk)>, Fault>
     requires vars { T.vars table ≡ 4 }
-    requires names { T.names table ≡ stored.names }
-    requires tests { T.is_stated table stored.tests }
-    requires steps { ⟦<BuiltinSteps as StoredSteps>⟧.is_stated steps stored.steps }
+    requires names { T.names table ≡ refusals_program.names }
+    requires tests { T.is_stated table refusals_program.tests }
+    requires steps { ⟦<BuiltinSteps as StoredSteps>⟧.is_stated steps refusals_program.steps }
 {
     match OpenedFront::open(alloc, disk, VARS, SLOTS, table, steps) {
         Ok(opened) => {
@@ -119,10 +119,10 @@ fn with_front<N: StoreNaming, T: Invariants + Drop, R: Clock + Print + Wait>(
     requires spine { spine_of opened ≡ N.name }
     requires opening { front_found opened ≡ N.opening }
     requires vars { length N.opening.values ≡ 4 }
-    requires program { N.program ≡ stored }
-    requires names { T.names (front_table opened) ≡ stored.names }
-    requires stated { T.is_stated (front_table opened) stored.tests }
-    requires steps { ⟦<BuiltinSteps as StoredSteps>⟧.is_stated (front_steps opened) stored.steps }
+    requires program { N.program ≡ refusals_program }
+    requires names { T.names (front_table opened) ≡ refusals_program.names }
+    requires stated { T.is_stated (front_table opened) refusals_program.tests }
+    requires steps { ⟦<BuiltinSteps as StoredSteps>⟧.is_stated (front_steps opened) refusals_program.steps }
 {
     let front = opened.named::<N>();
     let mut looker = front.pass(rt)?;

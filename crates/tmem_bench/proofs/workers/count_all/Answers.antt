@@ -5,7 +5,7 @@ use Rattle.std.proofs.lemmas.Result.{IfOk-weaker}
 use Rattle.tmem_fault.specs.declared.fault.Fault.{Fault}
 use Rattle.tmem_bench.specs.Counting.{committed_together}
 use Rattle.tmem_bench.proofs.Summed.{are_counted, sum_fits}
-use Rattle.tmem_bench.proofs.workers.work_all.Goals as goal
+use Rattle.tmem_bench.proofs.workers.count_all.Goals as goal
 
 pub sum_of-requires : goal.sum_of-requires
 sum_of-requires g c =

@@ -5,8 +5,8 @@ use Rattle.tmem_builtins.specs.Invariants.{is_not_negative}
 use Rattle.tmem_core.specs.Program.{Program}
 
 -- the stored steps of scripts, and one invariant: variable 0 is at least 0
-abbrev pub stored : Program
-stored = record {
+abbrev pub refusals_program : Program
+refusals_program = record {
   steps = builtin_steps;
   names = codes "nonneg" ∷ [];
   tests = record { footprint = λ name. 0 ∷ []; test = λ name values. is_not_negative values };
