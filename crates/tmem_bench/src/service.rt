@@ -1,4 +1,4 @@
-// Threads that share a store.
+// Callers of a job, in threads that share a store.
 ghost use Rattle.std.specs.Prelude.{◌≡◌, ◌+◌, ◌-◌, ◌^◌, min, IfOk};
 ghost use Rattle.tmem_bench.specs.Transactions.{Does};
 ghost use Rattle.tmem_bench.specs.declared.figures.Work.TheVariants.{OnStore};
