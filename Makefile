@@ -18,7 +18,7 @@ $(UNPROVED): .ci/unproved crates.txt $(shell find crates -name out -prune -o -na
 build:
 	cd crates/tmem && rt run -- --version
 
-# Proves and tests everything, tries seven mutants, and runs what the documents show.
+# Proves and tests everything, tries eleven mutants, and runs what the documents show.
 test:
 	.ci/test
 
