@@ -37,7 +37,7 @@ impl fmt::Display for FaultHelp {
             Fault::Missing(name) => return write_named(
                 f,
                 name,
-                " is registered in the store, and this program or shape has none of this name; check the paths of the store and of the shape or script; if they are the ones, open the store with the program or shape that used it last, as that was then; only if that had none of this name, too, something changed the file: move it away, and put a copy in its place (what the copy lacks is lost)",
+                " is registered in the store, and this program or shape has none of this name; check the paths of the store and of the shape or script; if they are the ones, open the store with the program or shape that used it last, as that was then (a transaction there can retire it, unless that shape has it always); only if that had none of this name, too, something changed the file: move it away, and put a copy in its place (what the copy lacks is lost)",
             ),
             Fault::Broken(name) => return write_named(
                 f,

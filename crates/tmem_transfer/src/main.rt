@@ -24,12 +24,23 @@ fn main(rt: HostRuntime) -> Result<(), Fault> {
     )?;
     let balanced = Invariant::new(Name::new("balanced")?, vec![in alloc; 0, 1]?, balanced)?;
     let table = Table::of(alloc, vec![in alloc; balanced]?, 2)?;
-    let (lost, found) = transfer_in_new(alloc, table, Steps::of(Vec::new(alloc))?)?;
+    let outcome = transfer_in_new(alloc, table, Steps::of(Vec::new(alloc))?)?;
     let _ = println!(rt;
-        "a loss is committed: {lost}\nfound: {} and {}",
-        found.0, found.1
+        "the move is committed: {}, a loss: {}\nfound: {} and {}",
+        outcome.is_moved, outcome.is_lost, outcome.found.0, outcome.found.1
     );
     Ok(())
+}
+
+/// What came of two transactions.
+#[derive(Clone, Copy)]
+struct Outcome {
+    /// Whether the move was committed.
+    is_moved: bool,
+    /// Whether the loss was.
+    is_lost: bool,
+    /// What the accounts have then.
+    found: (i64, i64),
 }
 
 /// Makes a new store over these invariants and stored steps, and moves money there.
@@ -37,29 +48,32 @@ fn transfer_in_new<T: Invariants + Drop, S: StoredSteps + Drop>(
     alloc: Global,
     table: T,
     steps: S,
-) -> Result<(bool, (i64, i64)), Fault>
+) -> Result<Outcome, Fault>
     requires { T.vars table ≡ 2 }
 {
     let mut world = new_store(alloc, table, steps)?;
     transfer(alloc, &mut world)
 }
 
-/// Moves 30 from account 0 to account 1 of a new store, tries to lose it, and opens the store again. Answers whether the
-/// loss was committed, and what the accounts have then.
+/// Moves 30 from account 0 to account 1 of a new store, tries to lose it, and opens the store again.
 fn transfer<D: Disk + Drop, T: Invariants + Drop, S: StoredSteps + Drop>(
     alloc: Global,
     world: &mut World<D, T, S>,
-) -> Result<(bool, (i64, i64)), Fault>
+) -> Result<Outcome, Fault>
     requires { (numbers_of world.old).vars ≡ 2 }
 {
-    commit(world, move_once(alloc)?);
-    let lost = commit(world, write(alloc, 1, 0)?);
+    let is_moved = commit(world, move_once(alloc)?)?;
+    let is_lost = commit(world, write(alloc, 1, 0)?)?;
     world.step(Event::Flush);
     world.step(Event::Reopen);
     if !world.is_open() {
         return Err(Fault::Closed);
     }
-    Ok((lost, accounts(world)))
+    Ok(Outcome {
+        is_moved,
+        is_lost,
+        found: accounts(world),
+    })
 }
 
 /// Moves 30, unless account 1 has something already: then it does nothing.
@@ -103,22 +117,27 @@ fn write(alloc: Global, var: u16, number: i64) -> Result<Tx, Fault> {
     Ok(Tx::Seq(vec![in alloc; Tx::Put { reg: 0, number }, Tx::Write { var, reg: 0 }]?))
 }
 
-/// Begins a transaction, evaluates it to its end and settles it. Answers whether it was committed.
+/// Begins a transaction, evaluates it to its end and settles it. Answers whether it was committed, or by which fault it was refused.
 fn commit<D: Disk + Drop, T: Invariants + Drop, S: StoredSteps + Drop>(
     world: &mut World<D, T, S>,
     tx: Tx,
-) -> bool
+) -> Result<bool, Fault>
     ensures { numbers_of world.new ≡ numbers_of world.old }
 {
-    world.step(Event::Begin { slot: 0, tx });
+    if let Reply::Fault(fault) = world.step(Event::Begin { slot: 0, tx }) {
+        return Err(fault);
+    }
     for _ in 0..=MAX_TURNS {
         let reply = world.step(Event::Turn { slot: 0 });
         if matches!(reply, Reply::Ended) {
             break;
         }
     }
-    let settled = world.step(Event::Settle { slot: 0 });
-    matches!(settled, Reply::Settled(Settled::Committed { .. }))
+    match world.step(Event::Settle { slot: 0 }) {
+        Reply::Settled(Settled::Committed { .. }) => Ok(true),
+        Reply::Fault(fault) => Err(fault),
+        _ => Ok(false),
+    }
 }
 
 /// What the two accounts have.
