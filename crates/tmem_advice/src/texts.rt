@@ -53,7 +53,7 @@ pub(crate) const NO_STORE: &str = "what is there is no store";
 pub(crate) const BEFORE_A_COPY: &str =
     "if it is to be a block device, look whether it is attached, and under which name (lsblk, losetup -l); if the file has another name now, name that; if a program still has it open (lsof +L1), let that write no more, and copy the file out of /proc/PID/fd before it ends; only if there was a store, and it is nowhere else, put a copy there (what the copy lacks is lost)";
 
-pub(crate) const NONE_YET: &str = "if there never was one, make one by tmem init";
+pub(crate) const NONE_YET: &str = "if there never was one, make one by tmem init STORE FILE";
 
 pub(crate) const ON_A_DEVICE: &str =
     "it is a block device, and names of devices change: look first whether it is the one, begins and ends at the right byte, and is not mounted (lsblk -b, losetup -l); to move it away means to copy its bytes to a file, and to put a copy in its place to write that onto it (dd)";
