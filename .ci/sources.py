@@ -8,8 +8,6 @@ from checks import text
 from edit import function_at
 
 lines = [it.partition(":") for it in text("crates.txt").decode().splitlines() if it and it[0] != "#"]
-# modules of the player that no row calls: they count as a crate of their own
-APART = re.compile(r"crates/tmem_player/src/refusals(\.rt|/)")
 # what a crate stands on
 uses = {crate.split()[0]: rest.split() for crate, _, rest in lines}
 # a function's text, by its file, its type and its name
@@ -37,7 +35,7 @@ def whole(source, at):
 
 
 def crate_of(file):
-    return "refusals" if APART.match(file) else file.split("/")[1]
+    return file.split("/")[1]
 
 
 def read(file):
@@ -93,6 +91,3 @@ def reached(keys):
 
 for source in sorted(glob.glob("crates/*/src/**/*.rt", recursive=True)):
     read(source)
-# (else a crate that `refusals` alone names would count as one that rows may call: the rest of the player stands on what it names)
-rest = "".join(source for file, source in sources.items() if crate_of(file) == "tmem_player")
-uses["refusals"], uses["tmem_player"] = uses["tmem_player"], [it for it in uses["tmem_player"] if f"{it}::" in rest]

@@ -1,14 +1,14 @@
-//! Why a row is not played to its end, or calls are not all made.
+//! Why a row is not played to its end.
 
 use std::alloc::{AllocError, AllocFailed};
 use std::{fmt, io};
 use tmem_fault::Fault;
 use tmem_forms::FormError;
 
-/// Why a row was not played to its end, or calls were not all made. Its text is what the user is told.
+/// Why a row was not played to its end. Its text is what the user is told.
 #[derive(Clone, Copy)]
 pub(crate) enum PlayFailure {
-    /// The command line is empty, or has another word than `step`, `play` and `refusals`.
+    /// The command line is empty, or has another word than `step` and `play`.
     Words,
     /// The input is no row.
     NoRow,
@@ -34,7 +34,7 @@ impl PlayFailure {
 impl fmt::Display for PlayFailure {
     fn fmt<W: fmt::Write>(&self, f: &mut fmt::Formatter<W>) -> fmt::Result {
         let text = match self {
-            PlayFailure::Words => "say step, play or refusals",
+            PlayFailure::Words => "say step or play",
             PlayFailure::NoRow => "bad row",
             PlayFailure::NoSession => "bad row: events for a world that was not opened",
             PlayFailure::Refused(fault) => return write!(f, "{fault}"),

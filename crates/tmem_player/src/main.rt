@@ -1,6 +1,5 @@
-//! `tmem_player`: plays a row of behavior, which is a JSON file beside its output, and makes calls that may be refused memory. It is a
-//! tool for tests. It does what each word of its command line says, one after another: `step` and `play` play a row, and `refusals`
-//! makes the calls. Words are read as they come: what those before a wrong one printed stays, and only the first of `step` and `play` finds
+//! `tmem_player`: plays a row of behavior, which is a JSON file beside its output. It is a tool for tests. `step` and `play` on its command
+//! line play the row on the input. Words are read as they come: what those before a wrong one printed stays, and only the first one finds
 //! the row on the input.
 //!
 //! A row is a script of the program `tmem`, played on a device in memory that was formatted for its numbers. The device is
@@ -34,7 +33,7 @@
 //!
 //! `reading` reads a row, and `draft` puts its entries together. `device` does what they do with the device, `handing` makes the
 //! closures that a world is opened with, `session` plays the events, and `evaluating` evaluates transactions, whose
-//! `attempts` are compared and printed. `refusals` makes the calls that may be refused memory.
+//! `attempts` are compared and printed.
 #![tactic(auto)]
 
 mod attempts;
@@ -47,20 +46,16 @@ mod handing;
 mod playing;
 mod printing;
 mod reading;
-mod refusals;
 mod row;
 mod session;
 
 use failure::PlayFailure;
 use playing::play;
 use reading::row_of;
-use refusals::make_calls;
 use std::alloc::Global;
 use std::env::{self, Env};
 use std::io::{BufWriter, Read, Write};
 use std::process::ExitCode;
-use std::rt::Clock;
-use std::sync::Wait;
 
 /// How the events of a row are played.
 #[derive(Clone, Copy)]
@@ -84,7 +79,7 @@ fn main(rt: HostRuntime) -> ExitCode {
 }
 
 // Does what each word of the command line says, one after another.
-fn run<I: Read, W: Write, R: AllocGlobal + Clock + Env + Print + Wait>(
+fn run<I: Read, W: Write, R: AllocGlobal + Env>(
     rt: &R,
     input: &mut I,
     output: &mut W,
@@ -101,7 +96,7 @@ fn run<I: Read, W: Write, R: AllocGlobal + Clock + Env + Print + Wait>(
 }
 
 // Does what a word of the command line says.
-fn do_word<I: Read, W: Write, R: AllocGlobal + Clock + Print + Wait>(
+fn do_word<I: Read, W: Write, R: AllocGlobal>(
     rt: &R,
     word: &str,
     input: &mut I,
@@ -110,7 +105,6 @@ fn do_word<I: Read, W: Write, R: AllocGlobal + Clock + Print + Wait>(
     match word {
         "step" => play_input(rt.alloc(), Mode::Step, input, output),
         "play" => play_input(rt.alloc(), Mode::Play, input, output),
-        "refusals" => Ok(make_calls(rt, rt.alloc())?),
         _ => Err(PlayFailure::Words),
     }
 }

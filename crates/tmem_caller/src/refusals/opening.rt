@@ -1,0 +1,131 @@
+//! Opens the front.
+ghost use Rattle.std.specs.Prelude.{◌≡◌, length};
+ghost use Rattle.tmem_builtins.specs.Invariants.{is_not_negative};
+ghost use Rattle.tmem_invariants.specs.Answers.{MayCall, Gives};
+ghost use Rattle.tmem_front.specs.Held.{front_found, spine_of, front_steps, front_table};
+ghost use Rattle.tmem_caller.specs.Refusals.{refusals_program};
+
+use crate::refusals::fronts::settle_all;
+use crate::refusals::printing::{say_fault, say_line, say_number};
+use crate::refusals::store::{SLOTS, VARS, content_of};
+use std::alloc::Global;
+use std::marker::Brand;
+use std::rt::Clock;
+use std::sync::Wait;
+use tmem_builtins::{BuiltinSteps, names, nonneg, stored_steps};
+use tmem_disk::SimDisk;
+use tmem_fault::Fault;
+use tmem_front::{OpenedFront, StoreNaming};
+use tmem_invariants::Invariants;
+use tmem_tables::{Invariant, Table, Test};
+use tmem_tree::StoredSteps;
+
+/// Makes the invariant and its table, and opens the device with them. Where that is refused, it says so, and whether the device is as
+/// it was, and hands it back.
+pub(crate) fn open_once<R: Clock + Print + Wait>(
+    rt: &R,
+    alloc: Global,
+    mut disk: SimDisk,
+) -> Result<Option<SimDisk>, Fault> {
+    let before = content_of(alloc, &mut disk)?;
+    let Some((fault, mut disk)) = open_under_invariant(rt, alloc, disk)? else {
+        return Ok(None);
+    };
+    say_refused(rt, alloc, fault, &mut disk, &before)?;
+    Ok(Some(disk))
+}
+
+// Prints why the device was not opened, and whether it is as it was.
+fn say_refused<R: Print>(
+    rt: &R,
+    alloc: Global,
+    fault: Fault,
+    disk: &mut SimDisk,
+    before: &[u8],
+) -> Result<(), Fault> {
+    say_fault(rt, fault);
+    let after = content_of(alloc, disk)?;
+    say_line(
+        rt,
+        if before == after.as_slice() {
+            "the device is as it was"
+        } else {
+            "the device was changed"
+        },
+    );
+    Ok(())
+}
+
+// Makes the test of the invariant, and opens the device with it.
+fn open_under_invariant<R: Clock + Print + Wait>(
+    rt: &R,
+    alloc: Global,
+    disk: SimDisk,
+) -> Result<Option<(Fault, SimDisk)>, Fault> {
+    let test = Box::new(
+        alloc,
+        |values: &[i64]| -> bool
+            requires { length values.now ≡ 1 }
+            ensures { result ≡ is_not_negative values.now }
+        { nonneg(values) },
+    )?;
+    open_with(rt, alloc, disk, test)
+}
+
+// Makes the invariant of this test and its table, and opens the device with them.
+fn open_with<R: Clock + Print + Wait>(
+    rt: &R,
+    alloc: Global,
+    disk: SimDisk,
+    test: Test,
+) -> Result<Option<(Fault, SimDisk)>, Fault>
+    requires callable { MayCall (Test.pre test) 1 }
+    requires stated { Gives (Test.post test) 1 is_not_negative }
+{
+    let invariant = Invariant::new(names()[0], vec![in alloc; 0]?, test)?;
+    let table = Table::of(alloc, vec![in alloc; invariant]?, VARS)?;
+    say_line(rt, "closures");
+    open(rt, alloc, disk, table, stored_steps())
+}
+
+// Opens a device, and settles transactions there. Answers why it was not opened, with the device.
+fn open<T: Invariants + Drop, R: Clock + Print + Wait>(
+    rt: &R,
+    alloc: Global,
+    disk: SimDisk,
+    table: T,
+    steps: BuiltinSteps,
+) -> Result<Option<(Fault, SimDisk)>, Fault>
+    requires vars { T.vars table ≡ 4 }
+    requires names { T.names table ≡ refusals_program.names }
+    requires tests { T.is_stated table refusals_program.tests }
+    requires steps { ⟦<BuiltinSteps as StoredSteps>⟧.is_stated steps refusals_program.steps }
+{
+    match OpenedFront::open(alloc, disk, VARS, SLOTS, table, steps) {
+        Ok(opened) => {
+            with_front::<Brand, T, R>(rt, alloc, opened)?;
+            Ok(None)
+        }
+        Err(refused) => Ok(Some(refused)),
+    }
+}
+
+// Gives the store its name in the types, and settles transactions there.
+fn with_front<N: StoreNaming, T: Invariants + Drop, R: Clock + Print + Wait>(
+    rt: &R,
+    alloc: Global,
+    opened: OpenedFront<SimDisk, T, BuiltinSteps>,
+) -> Result<(), Fault>
+    requires spine { spine_of opened ≡ N.name }
+    requires opening { front_found opened ≡ N.opening }
+    requires vars { length N.opening.values ≡ 4 }
+    requires program { N.program ≡ refusals_program }
+    requires names { T.names (front_table opened) ≡ refusals_program.names }
+    requires stated { T.is_stated (front_table opened) refusals_program.tests }
+    requires steps { ⟦<BuiltinSteps as StoredSteps>⟧.is_stated (front_steps opened) refusals_program.steps }
+{
+    let front = opened.named::<N>();
+    let mut looker = front.pass(rt)?;
+    say_number(rt, "opened", front.look(&mut looker));
+    settle_all(rt, alloc, &front, &mut looker)
+}

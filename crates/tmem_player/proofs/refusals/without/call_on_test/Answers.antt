@@ -1,4 +1,0 @@
-use Rattle.tmem_player.proofs.refusals.without.call_on_test.Goals as goal
-
-pub new-requires-clause-stated : goal.new-requires-clause-stated
-new-requires-clause-stated g c = rw c.requires.footprint c.requires.stated
