@@ -2,7 +2,7 @@
 use super::counting::CountDisk;
 use super::effects::are_spelled;
 use super::flushing::{flush, flush_two, holds_run, is_run_flushed};
-use std::alloc::Global;
+use std::alloc::{AllocGlobal, Global};
 use std::mem;
 use std::process::Abort;
 use tmem_disk::{DeviceFault, Disk, Fill, SimDisk};
@@ -111,9 +111,9 @@ struct Store {
 }
 
 /// Does what the cases say, each row on a store of its own, and fails where an act is answered otherwise.
-pub(super) fn play(rt: &impl Abort, alloc: Global, acts: &[Act]) {
+pub(super) fn play<R: Abort + AllocGlobal>(rt: &R, acts: &[Act]) {
     assert!(rt; each_case_has_a_row(acts));
-    if let Some((name, row, act)) = first_other(alloc, acts) {
+    if let Some((name, row, act)) = first_other(rt.alloc(), acts) {
         fail(rt, name, row, act);
     }
 }

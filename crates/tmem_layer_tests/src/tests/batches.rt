@@ -228,8 +228,8 @@ fn a_batch_of_64_records_is_encoded_and_decoded(rt: HostRuntime) {
     assert!(rt; are_64_records(rt.alloc(), BYTES_OF_64));
 }
 
-/// The bytes of batches, with how many records they say that they have, and whether that is read over four variables as a batch of the first version
-/// and of the second. What is not read differs from what is in what is wrong with it.
+/// How many records batches say that they have and the bytes of these, and whether that is read over four variables as a batch of the
+/// first version and of the second. What is not read differs from what is in what is wrong with it.
 static CONTENTS: &[(&'static [u8], bool, bool)] = &[
     (
         batch_bytes!(1, [1, 0, 0, 5, 0, 0, 0, 0, 0, 0, 0, 0, 0]),

@@ -44,7 +44,7 @@ static CONTENTS: &[Act<'static>] = &[
 
 #[test]
 fn a_read_gives_what_was_written_and_a_crash_leaves_what_was_synced(rt: HostRuntime) {
-    play(&rt, rt.alloc(), CONTENTS);
+    play(&rt, CONTENTS);
 }
 
 static FAILURES: &[Act<'static>] = &[
@@ -114,7 +114,7 @@ static FAILURES: &[Act<'static>] = &[
 
 #[test]
 fn a_call_that_is_armed_fails_once(rt: HostRuntime) {
-    play(&rt, rt.alloc(), FAILURES);
+    play(&rt, FAILURES);
 }
 
 static CRASHES: &[Act<'static>] = &[
@@ -211,7 +211,7 @@ static CRASHES: &[Act<'static>] = &[
 
 #[test]
 fn a_crashed_device_fails_until_its_restart(rt: HostRuntime) {
-    play(&rt, rt.alloc(), CRASHES);
+    play(&rt, CRASHES);
 }
 
 static PLACES: &[Act<'static>] = &[
@@ -273,5 +273,5 @@ static PLACES: &[Act<'static>] = &[
 
 #[test]
 fn a_crash_is_met_at_its_place(rt: HostRuntime) {
-    play(&rt, rt.alloc(), PLACES);
+    play(&rt, PLACES);
 }

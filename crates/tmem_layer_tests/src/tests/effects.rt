@@ -12,7 +12,7 @@ pub(super) struct Made {
 }
 
 impl Made {
-    fn new() -> Made {
+    pub(super) fn new() -> Made {
         Made {
             effect: Effect::new(),
         }
@@ -26,8 +26,9 @@ impl Made {
         true
     }
 
-    fn is_checked(&mut self, letters: &str) -> bool {
-        match Name::new(letters) {
+    /// Checks a name, if it is one and there is room.
+    pub(super) fn is_checked(&mut self, name: Result<Name, Fault>) -> bool {
+        match name {
             Ok(name) if self.effect.names.as_slice().len() < 8 => {
                 self.effect.check(&name);
                 true
@@ -36,8 +37,9 @@ impl Made {
         }
     }
 
-    fn is_retired(&mut self, letters: &str) -> bool {
-        match Name::new(letters) {
+    /// Retires a name, if it is one and there is room.
+    pub(super) fn is_retired(&mut self, name: Result<Name, Fault>) -> bool {
+        match name {
             Ok(name) if self.effect.retired.as_slice().len() < 8 => {
                 self.effect.retire(&name);
                 true
@@ -55,10 +57,10 @@ pub(super) fn effect_of(writes: &[(u16, i64)], checks: &[&str], retires: &[&str]
         is_so = made.is_put(*var, *value) && is_so;
     }
     for letters in checks {
-        is_so = made.is_checked(letters) && is_so;
+        is_so = made.is_checked(Name::new(letters)) && is_so;
     }
     for letters in retires {
-        is_so = made.is_retired(letters) && is_so;
+        is_so = made.is_retired(Name::new(letters)) && is_so;
     }
     if is_so { Some(made) } else { None }
 }

@@ -195,19 +195,20 @@ fn is_named(rt: HostRuntime, places: &Places, mut disk: FileDisk, making: &Makin
     are_done(rt, places, making.behind) && are_so(&mut disk, making.named)
 }
 
-/// The same where there is one to make.
-fn is_made_if_asked(rt: HostRuntime, places: &Places, making: Option<&Making>) -> bool {
-    match making {
-        Some(making) => is_made(rt, places, making),
-        None => true,
+fn are_made(rt: HostRuntime, places: &Places, makings: &[Making]) -> bool {
+    for making in makings {
+        if !is_made(rt, places, making) {
+            return false;
+        }
     }
+    true
 }
 
 /// Whether this is done in a new folder, which is removed.
-fn is_well_done(rt: HostRuntime, making: Option<&Making>, steps: &[Step]) -> bool {
+fn is_well_done(rt: HostRuntime, makings: &[Making], steps: &[Step]) -> bool {
     match make_places(rt) {
         Some(places) => {
-            let is_so = is_made_if_asked(rt, &places, making) && are_done(rt, &places, steps);
+            let is_so = are_made(rt, &places, makings) && are_done(rt, &places, steps);
             fs::remove_dir_all(&rt, places.folder.as_str()).is_ok() && is_so
         }
         None => false,
@@ -235,13 +236,13 @@ const IN_PART: &[Act<'static>] = &[Size(4096), Reads(4093, b"\0ab")];
 const EMPTY: &[Act<'static>] = &[Size(0)];
 
 // It is alone in the folder once it is named, and nobody else opens it while it is open.
-static NAMING: Making<'static> = Making {
+static NAMING: &[Making<'static>] = &[Making {
     new: NEW,
     beside: &[Step::CreatesAnother],
     is_named: true,
     behind: &[Step::Stand(1, true), Step::OpenFails(Place::Store)],
     named: NAMED,
-};
+}];
 
 // The first bytes of it alone are found where no more are asked for.
 static OPENINGS: &[Step<'static>] = &[
@@ -252,7 +253,7 @@ static OPENINGS: &[Step<'static>] = &[
 
 #[test]
 fn a_named_file_is_read_by_the_next_opening(rt: HostRuntime) {
-    assert!(rt; is_well_done(rt, Some(&NAMING), OPENINGS));
+    assert!(rt; is_well_done(rt, NAMING, OPENINGS));
 }
 
 // An empty file is none of them.
@@ -273,21 +274,21 @@ static REFUSALS: &[Step<'static>] = &[
 
 #[test]
 fn refuses_what_is_no_file(rt: HostRuntime) {
-    assert!(rt; is_well_done(rt, None, REFUSALS));
+    assert!(rt; is_well_done(rt, &[], REFUSALS));
 }
 
 // The name is taken before a new file is named, which is refused then.
-static LATE: Making<'static> = Making {
+static LATE: &[Making<'static>] = &[Making {
     new: &[],
     beside: &[Step::PutsBytes(b"kept"), Step::CreateFails(Place::Store)],
     is_named: false,
     behind: &[],
     named: &[],
-};
+}];
 
 static KEPT: &[Step<'static>] = &[Step::KeepsBytes(b"kept"), Step::Stand(1, true)];
 
 #[test]
 fn never_takes_a_name_from_a_file(rt: HostRuntime) {
-    assert!(rt; is_well_done(rt, Some(&LATE), KEPT));
+    assert!(rt; is_well_done(rt, LATE, KEPT));
 }

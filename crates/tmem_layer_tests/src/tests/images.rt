@@ -44,7 +44,7 @@ static IMAGES: &[Act<'static>] = &[
 
 #[test]
 fn the_greater_open_image_is_chosen(rt: HostRuntime) {
-    play(&rt, rt.alloc(), IMAGES);
+    play(&rt, IMAGES);
 }
 
 static CRASHES: &[Act<'static>] = &[
@@ -205,5 +205,5 @@ static CRASHES: &[Act<'static>] = &[
 
 #[test]
 fn a_crash_leaves_the_old_image_or_the_new_one(rt: HostRuntime) {
-    play(&rt, rt.alloc(), CRASHES);
+    play(&rt, CRASHES);
 }

@@ -187,7 +187,7 @@ static FLUSHES: &[Act<'static>] = &[
 
 #[test]
 fn a_flush_is_durable_or_as_before(rt: HostRuntime) {
-    play(&rt, rt.alloc(), FLUSHES);
+    play(&rt, FLUSHES);
 }
 
 static REFUSALS: &[Act<'static>] = &[
@@ -253,7 +253,7 @@ static REFUSALS: &[Act<'static>] = &[
 
 #[test]
 fn what_is_no_store_is_refused(rt: HostRuntime) {
-    play(&rt, rt.alloc(), REFUSALS);
+    play(&rt, REFUSALS);
 }
 
 static SLOTS: &[Act<'static>] = &[
@@ -308,7 +308,7 @@ static SLOTS: &[Act<'static>] = &[
 
 #[test]
 fn an_open_slot_behind_the_log_is_closed_or_damage(rt: HostRuntime) {
-    play(&rt, rt.alloc(), SLOTS);
+    play(&rt, SLOTS);
 }
 
 static EDGES: &[Act<'static>] = &[
@@ -370,7 +370,7 @@ static EDGES: &[Act<'static>] = &[
 
 #[test]
 fn block_0_is_opened_last_and_the_greatest_numbers_stay(rt: HostRuntime) {
-    play(&rt, rt.alloc(), EDGES);
+    play(&rt, EDGES);
 }
 
 static CONTENTS: &[Act<'static>] = &[
@@ -474,5 +474,5 @@ static CONTENTS: &[Act<'static>] = &[
 
 #[test]
 fn a_store_has_these_bytes_and_no_others(rt: HostRuntime) {
-    play(&rt, rt.alloc(), CONTENTS);
+    play(&rt, CONTENTS);
 }

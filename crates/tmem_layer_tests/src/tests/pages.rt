@@ -213,12 +213,12 @@ static LARGE: &[Act<'static>] = &[
 
 #[test]
 fn a_checkpoint_of_sixteen_pages_writes_those_that_changed(rt: HostRuntime) {
-    play(&rt, rt.alloc(), LARGE);
+    play(&rt, LARGE);
 }
 
 #[test]
 fn a_checkpoint_writes_changed_pages(rt: HostRuntime) {
-    play(&rt, rt.alloc(), PAGES);
+    play(&rt, PAGES);
 }
 
 // 200 variables have four pages
@@ -300,5 +300,5 @@ static RUNS: &[Act<'static>] = &[
 
 #[test]
 fn a_long_run_is_found_again(rt: HostRuntime) {
-    play(&rt, rt.alloc(), RUNS);
+    play(&rt, RUNS);
 }

@@ -1,5 +1,5 @@
 //! A state whose registered names are as many as there may be.
-use super::effects::numbered;
+use super::effects::{Made, numbered};
 use super::rows::none_other;
 use std::alloc::Global;
 use tmem_effect::Effect;
@@ -17,22 +17,17 @@ fn full_state(alloc: Global) -> Result<State, Fault> {
     Ok(State::of(5, names, Vec::new(alloc)))
 }
 
-/// An effect that checks the first names and then retires the others.
-fn effect_of(checks: &[u8], retires: &[u8]) -> Result<Effect, Fault> {
-    let mut effect = Effect::new();
+/// An effect that checks the first names and then retires the others, if it may have as many.
+fn effect_of(checks: &[u8], retires: &[u8]) -> Option<Made> {
+    let mut made = Made::new();
+    let mut is_so = true;
     for n in checks {
-        if effect.names.as_slice().len() >= 8 {
-            return Err(Fault::Full);
-        }
-        effect.check(&numbered(*n)?);
+        is_so = made.is_checked(numbered(*n)) && is_so;
     }
     for n in retires {
-        if effect.retired.as_slice().len() >= 8 {
-            return Err(Fault::Full);
-        }
-        effect.retire(&numbered(*n)?);
+        is_so = made.is_retired(numbered(*n)) && is_so;
     }
-    Ok(effect)
+    if is_so { Some(made) } else { None }
 }
 
 /// Commits an effect where there is room for its names, and answers whether there is.
@@ -52,8 +47,10 @@ fn after(
     retires: &[u8],
 ) -> Result<Option<(u64, usize, [bool; 4])>, Fault> {
     let mut state = full_state(alloc)?;
-    let effect = effect_of(checks, retires)?;
-    if !is_committed(&mut state, &effect) {
+    let Some(made) = effect_of(checks, retires) else {
+        return Err(Fault::Full);
+    };
+    if !is_committed(&mut state, &made.effect) {
         return Ok(None);
     }
     let has = edges_of(&state)?;

@@ -303,7 +303,7 @@ static BEHIND: &[Act<'static>] = &[
 
 #[test]
 fn a_store_of_version_1_becomes_one_of_version_2(rt: HostRuntime) {
-    play(&rt, rt.alloc(), OPENED);
-    play(&rt, rt.alloc(), OPENED_WITH_TWO);
-    play(&rt, rt.alloc(), BEHIND);
+    play(&rt, OPENED);
+    play(&rt, OPENED_WITH_TWO);
+    play(&rt, BEHIND);
 }
