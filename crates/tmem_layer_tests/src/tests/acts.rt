@@ -1,11 +1,10 @@
 //! What a test does to a device, to an image on it or to its journal, as data: each act says what it is answered.
-ghost use Rattle.std.specs.Prelude.{◌≡◌, length, IfOk};
-
 use super::counting::CountDisk;
-use super::flushing::{flush_both, flush_name, flush_to, flush_two, holds_run, is_run_flushed};
-use std::alloc::{AllocError, Global};
+use super::effects::are_spelled;
+use super::flushing::{flush, flush_two, holds_run, is_run_flushed};
+use std::alloc::{AllocGlobal, Global};
+use std::mem;
 use std::process::Abort;
-use std::test::Fail;
 use tmem_disk::{DeviceFault, Disk, Fill, SimDisk};
 use tmem_fault::{Fault, Name};
 use tmem_image::{ALL_PAGES, ImageRoom, ImageState, choose, load, write_spare};
@@ -105,30 +104,22 @@ pub(super) type Device = CountDisk<SimDisk>;
 
 /// Between two acts.
 #[derive(Drop)]
-enum Store {
-    Closed(Device),
-    Session(Journal<Device>),
+struct Store {
+    // of no byte while there is a session, which has the device then
+    disk: Device,
+    session: Option<Journal<Device>>,
 }
 
 /// Does what the cases say, each row on a store of its own, and fails where an act is answered otherwise.
-pub(super) fn play(rt: &impl Abort, alloc: Global, acts: &[Act]) -> Result<(), Fail> {
-    assert!(rt; each_case_has_a_row(acts), "a case has no row");
-    let mut case = 0;
-    let mut name = "";
-    for (index, act) in acts.iter().enumerate() {
-        match act {
-            Act::Case(named) => {
-                case = index;
-                name = *named;
-            }
-            Act::Row => {
-                let other = other_in_row(alloc, acts, case, index)?;
-                assert!(rt; other.is_none(), "{name}, row at act {index}: {other:?}");
-            }
-            _ => {}
-        }
+pub(super) fn play<R: Abort + AllocGlobal>(rt: &R, acts: &[Act]) {
+    assert!(rt; each_case_has_a_row(acts));
+    if let Some((name, row, act)) = first_other(rt.alloc(), acts) {
+        fail(rt, name, row, act);
     }
-    Ok(())
+}
+
+fn fail(rt: &impl Abort, name: &str, row: usize, act: usize) {
+    panic!(rt; "{name}, row at {row}: act {act} of its case or its own");
 }
 
 /// Whether there is a case, and a row follows each one before the next, so that all are played.
@@ -148,107 +139,122 @@ fn each_case_has_a_row(acts: &[Act]) -> bool {
     has_row
 }
 
-/// The acts behind a mark, up to the next one.
-fn behind<'b, 'a>(acts: &'b [Act<'a>], mark: usize) -> &'b [Act<'a>] {
-    let begin = if mark < acts.len() {
-        mark + 1
-    } else {
-        acts.len()
-    };
-    let rest = &acts[begin..];
-    match rest
-        .iter()
-        .position(|act| matches!(act, Act::Case(_) | Act::Row))
-    {
-        Some(end) => &rest[..end],
-        None => rest,
-    }
-}
-
-/// The index of the first act of a row that is answered otherwise, behind the marks of its case and of itself.
-fn other_in_row(
-    alloc: Global,
-    acts: &[Act],
-    case: usize,
-    row: usize,
-) -> Result<Option<usize>, Fault> {
-    let mut both = Vec::from_slice(alloc, behind(acts, case))?;
-    both.extend_from_slice(behind(acts, row))?;
-    first_other(alloc, &both)
-}
-
-/// The index of the first act that is answered otherwise.
-fn first_other(alloc: Global, acts: &[Act]) -> Result<Option<usize>, Fault> {
-    let mut store = Store::Closed(made(alloc, 0)?);
+/// The name of the first case, the index of the mark of its first row, and the first act there that is answered otherwise.
+fn first_other<'a>(alloc: Global, acts: &[Act<'a>]) -> Option<(&'a str, usize, usize)> {
+    let mut case = acts;
+    let mut name = "";
     for (index, act) in acts.iter().enumerate() {
-        let (next, is_so) = after(alloc, store, act)?;
-        if !is_so {
-            return Ok(Some(index));
-        }
-        store = next;
-    }
-    Ok(None)
-}
-
-/// A device of so many zeros.
-fn made(alloc: Global, size: u64) -> Result<Device, Fault> {
-    Ok(CountDisk::new(SimDisk::new(alloc, size)?))
-}
-
-/// A device of so many bytes, these at these places and zeros elsewhere, that is synced.
-fn made_with(alloc: Global, size: u64, parts: &[(u64, &[u8])]) -> Result<Device, Fault> {
-    let mut disk = made(alloc, size)?;
-    put_parts(&mut disk, parts)?;
-    match disk.sync() {
-        Ok(()) => Ok(disk),
-        Err(_) => Err(Fault::Device),
-    }
-}
-
-/// Writes these bytes at these places.
-fn put_parts(disk: &mut Device, parts: &[(u64, &[u8])]) -> Result<(), Fault> {
-    for (at, bytes) in parts {
-        if write(disk, *at, bytes) != Some(Ok(())) {
-            return Err(Fault::Device);
+        match act {
+            Act::Case(named) => {
+                case = &acts[index + 1..];
+                name = *named;
+            }
+            Act::Row => {
+                if let Some(other) = other_in_row(alloc, case, &acts[index + 1..]) {
+                    return Some((name, index, other));
+                }
+            }
+            _ => {}
         }
     }
-    Ok(())
+    None
 }
 
-/// The store after an act, and whether it is answered so.
-fn after(alloc: Global, store: Store, act: &Act) -> Result<(Store, bool), Fault> {
-    match store {
-        Store::Closed(disk) => after_device(alloc, disk, act),
-        Store::Session(journal) => after_session(alloc, journal, act),
+/// The first act that is answered otherwise, by its number in the case or in the row.
+fn other_in_row(alloc: Global, case: &[Act], row: &[Act]) -> Option<usize> {
+    let Ok(disk) = made(alloc, 0) else {
+        return Some(0);
+    };
+    let mut store = Store {
+        disk,
+        session: None,
+    };
+    match other_in(alloc, &mut store, case) {
+        None => other_in(alloc, &mut store, row),
+        other => other,
     }
 }
 
-fn after_session(
-    alloc: Global,
-    mut journal: Journal<Device>,
-    act: &Act,
-) -> Result<(Store, bool), Fault> {
-    if matches!(act, Act::Closes) {
-        return Ok((Store::Closed(journal.into_disk()), true));
+/// The first of the acts up to the next mark that is answered otherwise.
+fn other_in(alloc: Global, store: &mut Store, acts: &[Act]) -> Option<usize> {
+    for (index, act) in acts.iter().enumerate() {
+        if matches!(act, Act::Case(_) | Act::Row) {
+            return None;
+        }
+        if !is_so(alloc, store, act) {
+            return Some(index);
+        }
     }
-    let is_so = is_so_of_session(alloc, &mut journal, act)?;
-    Ok((Store::Session(journal), is_so))
+    None
 }
 
-fn is_so_of_session(
-    alloc: Global,
-    journal: &mut Journal<Device>,
-    act: &Act,
-) -> Result<bool, Fault> {
+/// Whether an act is answered so.
+fn is_so(alloc: Global, store: &mut Store, act: &Act) -> bool {
     match act {
-        Act::Checkpoints(answer) => Ok(is_checkpointed(journal, *answer)),
-        Act::Holds(count, number) => Ok(holds(journal, *count, *number)),
-        Act::HoldsAll(numbers) => Ok(holds_all(journal, numbers)),
-        Act::HoldsNames(names) => Ok(holds_names(journal, names)),
-        Act::HoldsRun(batches) => Ok(holds_run(journal, *batches)),
-        Act::IsClosed(is_closed) => Ok(journal.is_closed() == *is_closed),
+        Act::Opens(vars, slots, answer) => is_opened(alloc, store, *vars, *slots, *answer),
+        Act::Closes => is_ended(store),
+        _ => match &mut store.session {
+            Some(journal) => is_so_of_session(alloc, journal, act),
+            None => is_so_of_device(alloc, &mut store.disk, act),
+        },
+    }
+}
+
+/// Whether opening a session is answered so.
+fn is_opened(
+    alloc: Global,
+    store: &mut Store,
+    vars: u16,
+    slots: u16,
+    answer: Result<u64, &str>,
+) -> bool {
+    if store.session.is_some() {
+        return false;
+    }
+    let Ok(none) = made(alloc, 0) else {
+        return false;
+    };
+    let disk = mem::replace(&mut store.disk, none);
+    match Journal::open(alloc, disk, vars, slots) {
+        Ok(journal) => {
+            let is_so = is_session(&journal, vars, slots) && is_same(Ok(journal.count()), answer);
+            store.session = Some(journal);
+            is_so
+        }
+        Err((fault, disk)) => {
+            store.disk = disk;
+            is_same(Err(fault), answer)
+        }
+    }
+}
+
+/// Whether a journal is open, and for so many variables and slots.
+fn is_session(journal: &Journal<Device>, vars: u16, slots: u16) -> bool {
+    let numbers = journal.layout();
+    numbers.vars == vars && numbers.slots == slots && !journal.is_closed()
+}
+
+/// Ends a session, if there is one.
+fn is_ended(store: &mut Store) -> bool {
+    match store.session.take() {
+        Some(journal) => {
+            store.disk = journal.into_disk();
+            true
+        }
+        None => false,
+    }
+}
+
+fn is_so_of_session(alloc: Global, journal: &mut Journal<Device>, act: &Act) -> bool {
+    match act {
+        Act::Checkpoints(answer) => is_checkpointed(journal, *answer),
+        Act::Holds(count, number) => holds(journal, *count, *number),
+        Act::HoldsAll(numbers) => hold_all(journal.state().values(), numbers),
+        Act::HoldsNames(names) => are_spelled(journal.state().names(), names),
+        Act::HoldsRun(batches) => holds_run(journal, *batches),
+        Act::IsClosed(is_closed) => journal.is_closed() == *is_closed,
         Act::FlushesRun(batches) => is_run_flushed(alloc, journal, *batches),
-        _ => Ok(is_flushed(alloc, journal, act)),
+        _ => is_flushed(alloc, journal, act),
     }
 }
 
@@ -257,154 +263,164 @@ fn is_checkpointed(journal: &mut Journal<Device>, answer: Result<(), &str>) -> b
 }
 
 fn holds(journal: &Journal<Device>, count: u64, number: i64) -> bool {
-    journal.count() == count && journal.state().values().first() == Some(&number)
+    journal.count() == count && hold_all(journal.state().values(), &[(0, number)])
+}
+
+fn hold_all(values: &[i64], numbers: &[(u16, i64)]) -> bool {
+    for (var, number) in numbers {
+        match values.get(usize::from(*var)) {
+            Some(value) if *value == *number => {}
+            _ => return false,
+        }
+    }
+    true
 }
 
 /// Whether a batch is flushed so.
 fn is_flushed(alloc: Global, journal: &mut Journal<Device>, act: &Act) -> bool {
     match act {
-        Act::Flushes(number, answer) => is_same(flush_to(alloc, journal, 0, *number), *answer),
+        Act::Flushes(number, answer) => {
+            is_same(flush(alloc, journal, &[(0, *number)], &[]), *answer)
+        }
         Act::FlushesTo(var, number, answer) => {
-            is_same(flush_to(alloc, journal, *var, *number), *answer)
+            is_same(flush(alloc, journal, &[(*var, *number)], &[]), *answer)
         }
         Act::FlushesBoth(one, other, number, answer) => {
-            is_same(flush_both(alloc, journal, *one, *other, *number), *answer)
+            let writes = [(*one, *number), (*other, *number)];
+            is_same(flush(alloc, journal, &writes, &[]), *answer)
         }
         Act::FlushesTwo(one, other, number, answer) => {
             is_same(flush_two(alloc, journal, *one, *other, *number), *answer)
         }
-        Act::FlushesName(name, answer) => is_same(flush_name(alloc, journal, name), *answer),
+        Act::FlushesName(name, answer) => is_same(flush(alloc, journal, &[], &[*name]), *answer),
         _ => false,
     }
 }
 
-fn holds_all(journal: &Journal<Device>, numbers: &[(u16, i64)]) -> bool {
-    let values = journal.state().values();
-    numbers.iter().all(|(var, number)| values.get(usize::from(*var)) == Some(number))
-}
-
-fn holds_names(journal: &Journal<Device>, names: &[&str]) -> bool {
-    let had = journal.state().names();
-    had.len() == names.len()
-        && had
-            .iter()
-            .zip(names)
-            .all(|(name, letters)| name.as_str() == *letters)
-}
-
-fn after_device(alloc: Global, mut disk: Device, act: &Act) -> Result<(Store, bool), Fault> {
+fn is_so_of_device(alloc: Global, disk: &mut Device, act: &Act) -> bool {
     match act {
-        Act::Makes(size) => Ok((Store::Closed(made(alloc, *size)?), true)),
-        Act::MakesWith(size, parts) => Ok((Store::Closed(made_with(alloc, *size, parts)?), true)),
-        Act::Opens(vars, slots, answer) => Ok(opened(alloc, disk, *vars, *slots, *answer)),
-        _ => {
-            let is_so = is_so_of_device(alloc, &mut disk, act)?;
-            Ok((Store::Closed(disk), is_so))
-        }
+        Act::Makes(size) => is_made(alloc, disk, *size),
+        Act::MakesWith(size, parts) => is_made_with(alloc, disk, *size, parts),
+        Act::HoldsBytes(parts, changed) => is_content(alloc, disk, parts, changed),
+        _ => is_so_of_images(alloc, disk, act),
     }
 }
 
-fn is_so_of_device(alloc: Global, disk: &mut Device, act: &Act) -> Result<bool, Fault> {
-    Ok(
-        is_so_of_any(alloc, disk, act)?
-            || is_content(alloc, disk, act)?
-            || is_so_of_counting(disk, act)
-            || is_so_of_power(&mut disk.inner, act)
-            || is_so_of_images(alloc, disk, act)?,
-    )
+/// A device of so many zeros.
+fn made(alloc: Global, size: u64) -> Result<Device, Fault> {
+    match SimDisk::new(alloc, size) {
+        Ok(disk) => Ok(CountDisk::new(disk)),
+        Err(fault) => Err(fault),
+    }
 }
 
-/// Whether its whole content is so.
-fn is_content(alloc: Global, disk: &mut Device, act: &Act) -> Result<bool, Fault> {
-    match act {
-        Act::HoldsBytes(parts, changed) => {
-            let mut wanted = made_with(alloc, disk.size(), parts)?;
-            put_parts(&mut wanted, changed)?;
-            Ok(content(alloc, disk)? == content(alloc, &mut wanted)?)
+/// Puts a device of so many zeros in the place of another.
+fn is_made(alloc: Global, disk: &mut Device, size: u64) -> bool {
+    match made(alloc, size) {
+        Ok(new) => {
+            *disk = new;
+            true
         }
-        _ => Ok(false),
+        Err(_) => false,
+    }
+}
+
+/// Puts a device of so many bytes in the place of another, these at these places and zeros elsewhere, and syncs it.
+fn is_made_with(alloc: Global, disk: &mut Device, size: u64, parts: &[(u64, &[u8])]) -> bool {
+    is_made(alloc, disk, size) && are_put(disk, parts) && disk.sync().is_ok()
+}
+
+/// Writes these bytes at these places.
+fn are_put(disk: &mut Device, parts: &[(u64, &[u8])]) -> bool {
+    for (at, bytes) in parts {
+        if !matches!(write(disk, *at, bytes), Some(Ok(()))) {
+            return false;
+        }
+    }
+    true
+}
+
+/// Whether the whole content of a device is so.
+fn is_content(
+    alloc: Global,
+    disk: &mut Device,
+    parts: &[(u64, &[u8])],
+    changed: &[(u64, &[u8])],
+) -> bool {
+    let Ok(mut wanted) = made(alloc, disk.size()) else {
+        return false;
+    };
+    are_put(&mut wanted, parts)
+        && are_put(&mut wanted, changed)
+        && are_alike(alloc, disk, &mut wanted)
+}
+
+/// Whether two devices hold the same bytes.
+fn are_alike(alloc: Global, one: &mut Device, other: &mut Device) -> bool {
+    let Some(had) = content(alloc, one) else {
+        return false;
+    };
+    match content(alloc, other) {
+        Some(wanted) => had == wanted,
+        None => false,
     }
 }
 
 /// All bytes of a device.
-fn content(alloc: Global, disk: &mut Device) -> Result<Vec<u8>, Fault> {
-    let mut bytes = vec![in alloc; 0; disk.size() as usize]?;
+fn content(alloc: Global, disk: &mut Device) -> Option<Vec<u8>> {
+    let Ok(mut bytes) = vec![in alloc; 0; disk.size() as usize] else {
+        return None;
+    };
     match read(disk, 0, &mut bytes) {
-        Some(Ok(())) => Ok(bytes),
-        _ => Err(Fault::Device),
+        Some(Ok(())) => Some(bytes),
+        _ => None,
     }
-}
-
-/// The session of a device, or the device that is handed back, and whether opening it is answered so.
-fn opened(
-    alloc: Global,
-    disk: Device,
-    vars: u16,
-    slots: u16,
-    answer: Result<u64, &str>,
-) -> (Store, bool) {
-    match Journal::open(alloc, disk, vars, slots) {
-        Ok(journal) => {
-            let is_so = is_session(&journal, vars, slots) && answer == Ok(journal.count());
-            (Store::Session(journal), is_so)
-        }
-        Err((fault, disk)) => (Store::Closed(disk), answer == Err(word(fault))),
-    }
-}
-
-/// Whether a journal is open, and for so many variables and slots.
-fn is_session(journal: &Journal<Device>, vars: u16, slots: u16) -> bool {
-    let numbers = journal.layout();
-    (numbers.vars, numbers.slots, journal.is_closed()) == (vars, slots, false)
 }
 
 /// Whether calls of a device, as whoever knows only a device makes them, are answered so.
-pub(super) fn are_so<D: Disk>(
-    alloc: Global,
-    disk: &mut D,
-    acts: &[Act],
-) -> Result<bool, AllocError> {
+pub(super) fn are_so<D: Disk>(disk: &mut D, acts: &[Act]) -> bool {
     for act in acts {
-        if !is_so_of_any(alloc, disk, act)? {
-            return Ok(false);
+        if !is_so_of_any(disk, act) {
+            return false;
         }
     }
-    Ok(true)
+    true
 }
 
-fn is_so_of_any<D: Disk>(alloc: Global, disk: &mut D, act: &Act) -> Result<bool, AllocError> {
+fn is_so_of_any<D: Disk>(disk: &mut D, act: &Act) -> bool {
     match act {
-        Act::Size(size) => Ok(disk.size() == *size),
-        Act::Reads(at, wanted) => is_read(alloc, disk, *at, wanted),
-        Act::ReadFails(at, count) => is_not_read(alloc, disk, *at, *count),
-        Act::Writes(at, bytes) => Ok(write(disk, *at, bytes) == Some(Ok(()))),
-        Act::WriteFails(at, bytes) => Ok(write(disk, *at, bytes) == Some(Err(DeviceFault::Write))),
-        Act::Syncs => Ok(disk.sync() == Ok(())),
-        Act::SyncFails => Ok(disk.sync() == Err(DeviceFault::Sync)),
-        _ => Ok(false),
+        Act::Size(size) => disk.size() == *size,
+        Act::Reads(at, wanted) => is_read(disk, *at, wanted),
+        Act::ReadFails(at, count) => is_not_read(disk, *at, *count),
+        Act::Writes(at, bytes) => matches!(write(disk, *at, bytes), Some(Ok(()))),
+        Act::WriteFails(at, bytes) => {
+            matches!(write(disk, *at, bytes), Some(Err(DeviceFault::Write)))
+        }
+        Act::Syncs => matches!(disk.sync(), Ok(())),
+        Act::SyncFails => matches!(disk.sync(), Err(DeviceFault::Sync)),
+        _ => false,
     }
 }
 
+/// How many bytes an act reads at most.
+const MOST_READ: usize = 64;
+
 /// Whether a read gives these bytes.
-fn is_read<D: Disk>(
-    alloc: Global,
-    disk: &mut D,
-    at: u64,
-    wanted: &[u8],
-) -> Result<bool, AllocError> {
-    let mut had = vec![in alloc; 0xEE; wanted.len()]?;
-    Ok(read(disk, at, &mut had) == Some(Ok(())) && had.as_slice() == wanted)
+fn is_read<D: Disk>(disk: &mut D, at: u64, wanted: &[u8]) -> bool {
+    let mut room = [0xEE; MOST_READ];
+    match room.get_mut(..wanted.len()) {
+        Some(had) => matches!(read(disk, at, had), Some(Ok(()))) && &*had == wanted,
+        None => false,
+    }
 }
 
 /// Whether a read of so many bytes fails.
-fn is_not_read<D: Disk>(
-    alloc: Global,
-    disk: &mut D,
-    at: u64,
-    count: usize,
-) -> Result<bool, AllocError> {
-    let mut had = vec![in alloc; 0xEE; count]?;
-    Ok(read(disk, at, &mut had) == Some(Err(DeviceFault::Read)))
+fn is_not_read<D: Disk>(disk: &mut D, at: u64, count: usize) -> bool {
+    let mut room = [0xEE; MOST_READ];
+    match room.get_mut(..count) {
+        Some(had) => matches!(read(disk, at, had), Some(Err(DeviceFault::Read))),
+        None => false,
+    }
 }
 
 /// What a read answers, where it is within the device.
@@ -423,6 +439,11 @@ fn write<D: Disk>(disk: &mut D, at: u64, bytes: &[u8]) -> Option<Result<(), Devi
     Some(disk.write_at(at, bytes))
 }
 
+/// Whether its calls are answered so, were made so often, or fail so.
+fn is_so_of_calls(disk: &mut Device, act: &Act) -> bool {
+    is_so_of_any(disk, act) || is_so_of_counting(disk, act) || is_so_of_power(&mut disk.inner, act)
+}
+
 /// Whether it was called so often.
 fn is_so_of_counting(disk: &mut Device, act: &Act) -> bool {
     match act {
@@ -434,7 +455,8 @@ fn is_so_of_counting(disk: &mut Device, act: &Act) -> bool {
         Act::Wrote(writes) => disk.wrote(writes),
         Act::Made(reads, writes, syncs) => {
             let more = disk.calls.reads.checked_sub(disk.before.reads);
-            (disk.calls.writes, disk.calls.syncs) == (*writes, *syncs)
+            disk.calls.writes == *writes
+                && disk.calls.syncs == *syncs
                 && (reads.is_none() || *reads == more)
         }
         _ => false,
@@ -466,42 +488,107 @@ fn is_so_of_power(disk: &mut SimDisk, act: &Act) -> bool {
 /// How many variables a device has on which images are tested: two pages of them.
 const IMAGE_VARS: u16 = 70;
 
-/// A state of 258 transactions with two names. None of its values at the edges of the pages is 0.
-fn state(alloc: Global) -> Result<State, Fault>
-    ensures { IfOk result (λ state. length state.values ≡ 70) }
-{
-    let names = two_names(alloc)?;
-    let mut values = vec![in alloc; 3; 70]?;
-    values[0] = -1;
-    values[63] = i64::MAX;
-    values[64] = i64::MIN;
-    values[69] = 1000;
-    Ok(State::of(258, names, values))
-}
+/// The values that a test writes to an image. None at the edges of the pages is 0.
+static VALUES: [i64; 70] = [
+    -1,
+    3,
+    3,
+    3,
+    3,
+    3,
+    3,
+    3,
+    3,
+    3,
+    3,
+    3,
+    3,
+    3,
+    3,
+    3,
+    3,
+    3,
+    3,
+    3,
+    3,
+    3,
+    3,
+    3,
+    3,
+    3,
+    3,
+    3,
+    3,
+    3,
+    3,
+    3,
+    3,
+    3,
+    3,
+    3,
+    3,
+    3,
+    3,
+    3,
+    3,
+    3,
+    3,
+    3,
+    3,
+    3,
+    3,
+    3,
+    3,
+    3,
+    3,
+    3,
+    3,
+    3,
+    3,
+    3,
+    3,
+    3,
+    3,
+    3,
+    3,
+    3,
+    3,
+    i64::MAX,
+    i64::MIN,
+    3,
+    3,
+    3,
+    3,
+    1000,
+];
 
-fn two_names(alloc: Global) -> Result<NameSet, Fault> {
-    let (one, other) = (Name::new("ab")?, Name::new("b")?);
-    let mut names = NameSet::new(alloc)?;
-    if names.push(&one) && names.push(&other) {
-        Ok(names)
-    } else {
-        Err(Fault::Full)
+/// A state of 258 transactions with these values and two names.
+fn state(alloc: Global) -> Option<State> {
+    let names = two_names(alloc)?;
+    match Vec::from_slice(alloc, &VALUES) {
+        Ok(values) => Some(State::of(258, names, values)),
+        Err(_) => None,
     }
 }
 
-/// The state that formatting writes.
-fn no_state(alloc: Global) -> Result<State, AllocError> {
-    let names = NameSet::new(alloc)?;
-    Ok(State::of(0, names, vec![in alloc; 0; 70]?))
+fn two_names(alloc: Global) -> Option<NameSet> {
+    let Ok(mut names) = NameSet::new(alloc) else {
+        return None;
+    };
+    match (Name::new("ab"), Name::new("b")) {
+        (Ok(one), Ok(other)) if names.push(&one) && names.push(&other) => Some(names),
+        _ => None,
+    }
 }
 
-fn is_so_of_images(alloc: Global, disk: &mut Device, act: &Act) -> Result<bool, Fault> {
+/// Whether an act on images is answered so, or one on the calls of the device.
+fn is_so_of_images(alloc: Global, disk: &mut Device, act: &Act) -> bool {
     match act {
-        Act::Formats(vars, slots, answer) => Ok(is_formatted(disk, *vars, *slots, *answer)),
+        Act::Formats(vars, slots, answer) => is_formatted(disk, *vars, *slots, *answer),
         Act::Chooses(answer) => is_chosen(disk, *answer),
         Act::Puts(copy, generation, answer) => is_put(alloc, disk, *copy, *generation, *answer),
         Act::Loads(copy, answer) => is_loaded(alloc, disk, *copy, *answer),
-        _ => Ok(false),
+        _ => is_so_of_calls(disk, act),
     }
 }
 
@@ -509,9 +596,11 @@ fn is_formatted(disk: &mut Device, vars: u16, slots: u16, answer: Result<(), &st
     is_same(format(disk, vars, slots), answer)
 }
 
-fn is_chosen(disk: &mut Device, answer: Result<u8, &str>) -> Result<bool, Fault> {
-    let layout = Layout::new(IMAGE_VARS, 2)?;
-    Ok(disk.size() >= layout.end() && is_same(choose(disk, layout), answer))
+fn is_chosen(disk: &mut Device, answer: Result<u8, &str>) -> bool {
+    match Layout::new(IMAGE_VARS, 2) {
+        Ok(layout) => disk.size() >= layout.end() && is_same(choose(disk, layout), answer),
+        Err(_) => false,
+    }
 }
 
 /// Whether the image of `state` is written so to a copy, with a generation.
@@ -521,50 +610,63 @@ fn is_put(
     copy: u8,
     generation: u64,
     answer: Result<(), &str>,
-) -> Result<bool, Fault> {
-    let layout = Layout::new(IMAGE_VARS, 2)?;
-    let state = state(alloc)?;
-    if copy > 1 || generation == 0 || disk.size() < layout.end() || disk.sync().is_err() {
-        return Ok(false);
+) -> bool {
+    match state(alloc) {
+        Some(state) => is_written(disk, copy, generation, &state, answer),
+        None => false,
     }
-    Ok(is_same(
-        write_spare(disk, layout, copy, generation, &state, ALL_PAGES),
+}
+
+fn is_written(
+    disk: &mut Device,
+    copy: u8,
+    generation: u64,
+    state: &State,
+    answer: Result<(), &str>,
+) -> bool {
+    let Ok(layout) = Layout::new(IMAGE_VARS, 2) else {
+        return false;
+    };
+    let fits = state.values().len() == 70 && disk.size() >= layout.end();
+    if !fits || copy > 1 || generation == 0 || disk.sync().is_err() {
+        return false;
+    }
+    is_same(
+        write_spare(disk, layout, copy, generation, state, ALL_PAGES),
         answer,
-    ))
+    )
 }
 
 /// Whether a copy is loaded so, and holds what it ought to.
-fn is_loaded(
-    alloc: Global,
-    disk: &mut Device,
-    copy: u8,
-    answer: Result<u64, &str>,
-) -> Result<bool, Fault> {
-    let layout = Layout::new(IMAGE_VARS, 2)?;
+fn is_loaded(alloc: Global, disk: &mut Device, copy: u8, answer: Result<u64, &str>) -> bool {
+    let Ok(layout) = Layout::new(IMAGE_VARS, 2) else {
+        return false;
+    };
     if copy > 1 || disk.size() < layout.end() {
-        return Ok(false);
+        return false;
     }
-    match load(disk, layout, copy, ImageRoom::new(alloc, layout)?) {
-        Ok(image) => Ok(answer == Ok(image.generation) && is_whole(alloc, &image)?),
-        Err(fault) => Ok(answer == Err(word(fault))),
+    let Ok(room) = ImageRoom::new(alloc, layout) else {
+        return false;
+    };
+    match load(disk, layout, copy, room) {
+        Ok(image) => is_same(Ok(image.generation), answer) && is_whole(&image),
+        Err(fault) => is_same(Err(fault), answer),
     }
 }
 
 /// Whether an image is of the second version, and holds what formatting wrote where its generation is 1, and else `state`.
-fn is_whole(alloc: Global, image: &ImageState) -> Result<bool, Fault> {
+fn is_whole(image: &ImageState) -> bool {
     if image.version != Version::Two {
-        Ok(false)
+        false
     } else if image.generation == 1 {
-        Ok(is_alike(&image.state, &no_state(alloc)?))
+        is_of(&image.state, 0, &[], &[0; 70])
     } else {
-        Ok(is_alike(&image.state, &state(alloc)?))
+        is_of(&image.state, 258, &["ab", "b"], &VALUES)
     }
 }
 
-fn is_alike(had: &State, wanted: &State) -> bool {
-    had.count() == wanted.count()
-        && had.names() == wanted.names()
-        && had.values() == wanted.values()
+fn is_of(state: &State, count: u64, names: &[&str], values: &[i64]) -> bool {
+    state.count() == count && are_spelled(state.names(), names) && state.values() == values
 }
 
 /// Whether an answer is this one, where a refusal is known by its word.

@@ -4,7 +4,6 @@ use super::acts::Act::{
     Size, StopAtPlace, StopAtSync, StopAtWrite, StopNow, SyncFails, Syncs, WriteFails, Writes,
 };
 use super::acts::{Act, play};
-use std::test::Fail;
 use tmem_disk::Fill::{Byte, New, Old};
 
 static CONTENTS: &[Act<'static>] = &[
@@ -44,10 +43,8 @@ static CONTENTS: &[Act<'static>] = &[
 ];
 
 #[test]
-fn a_read_gives_what_was_written_and_a_crash_leaves_what_was_synced(
-    rt: HostRuntime,
-) -> Result<(), Fail> {
-    play(&rt, rt.alloc(), CONTENTS)
+fn a_read_gives_what_was_written_and_a_crash_leaves_what_was_synced(rt: HostRuntime) {
+    play(&rt, CONTENTS);
 }
 
 static FAILURES: &[Act<'static>] = &[
@@ -116,8 +113,8 @@ static FAILURES: &[Act<'static>] = &[
 ];
 
 #[test]
-fn a_call_that_is_armed_fails_once(rt: HostRuntime) -> Result<(), Fail> {
-    play(&rt, rt.alloc(), FAILURES)
+fn a_call_that_is_armed_fails_once(rt: HostRuntime) {
+    play(&rt, FAILURES);
 }
 
 static CRASHES: &[Act<'static>] = &[
@@ -213,8 +210,8 @@ static CRASHES: &[Act<'static>] = &[
 ];
 
 #[test]
-fn a_crashed_device_fails_until_its_restart(rt: HostRuntime) -> Result<(), Fail> {
-    play(&rt, rt.alloc(), CRASHES)
+fn a_crashed_device_fails_until_its_restart(rt: HostRuntime) {
+    play(&rt, CRASHES);
 }
 
 static PLACES: &[Act<'static>] = &[
@@ -275,6 +272,6 @@ static PLACES: &[Act<'static>] = &[
 ];
 
 #[test]
-fn a_crash_is_met_at_its_place(rt: HostRuntime) -> Result<(), Fail> {
-    play(&rt, rt.alloc(), PLACES)
+fn a_crash_is_met_at_its_place(rt: HostRuntime) {
+    play(&rt, PLACES);
 }

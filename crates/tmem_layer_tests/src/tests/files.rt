@@ -1,58 +1,218 @@
 //! A file as a device.
 use super::acts::Act::{Reads, Size, Syncs, Writes};
 use super::acts::{Act, are_so};
-use std::alloc::AllocError;
-use std::io::ErrorKind;
 use std::path::PathBuf;
-use std::test::Fail;
 use std::{env, fs};
 use tmem_fault::Fault;
 use tmem_file::{FileDisk, NewFile};
 
 const FILE_BYTES: u64 = 10_000;
 
-/// The path of a folder of this number in the system's folder for such files.
-fn numbered_folder(rt: &HostRuntime, number: u16) -> Result<PathBuf, Fail> {
-    let name = format!(in rt.alloc(); "tmem_file_test_{number}")?;
-    let folder = env::temp_dir(rt)?;
-    Ok(folder.join(rt.alloc(), name.as_str())?)
+/// A path.
+#[derive(Clone, Copy)]
+enum Place<'a> {
+    /// Of a folder that is new.
+    Folder,
+    /// Of the name in it that a file is to have.
+    Store,
+    /// Of a name in that, as if it were a folder.
+    Within,
+    /// Of this name.
+    At(&'a str),
 }
 
-/// Makes a folder, unless it is there.
-fn is_made(rt: &HostRuntime, folder: &str) -> Result<bool, Fail> {
-    match fs::create_dir(rt, folder) {
-        Ok(()) => Ok(true),
-        Err(error) if error.kind() == ErrorKind::AlreadyExists => Ok(false),
-        Err(error) => Err(Fail::from(error)),
+/// The texts of these paths.
+#[derive(Drop)]
+struct Places {
+    folder: PathBuf,
+    store: PathBuf,
+    within: PathBuf,
+}
+
+/// What is done in the folder.
+#[derive(Clone, Copy)]
+enum Step<'a> {
+    /// So many files are in it, and whether one of them is the store.
+    Stand(u64, bool),
+    /// Another new file is made there beside a first one and removed again: neither has the name before.
+    CreatesAnother,
+    /// The store is opened with so many bytes at most, does this and is closed.
+    OpensFile(u64, &'a [Act<'a>]),
+    /// This is refused as a file that is there.
+    OpenFails(Place<'a>),
+    /// This is refused as a new file.
+    CreateFails(Place<'a>),
+    /// By another way than a device, these bytes are put into the store, or found there.
+    PutsBytes(&'a [u8]),
+    KeepsBytes(&'a [u8]),
+}
+
+/// The making of a file: what it does before it is named, what is done beside it then, whether it is named, and the same behind that.
+struct Making<'a> {
+    new: &'a [Act<'a>],
+    beside: &'a [Step<'a>],
+    is_named: bool,
+    behind: &'a [Step<'a>],
+    named: &'a [Act<'a>],
+}
+
+/// The path of a folder of this number in the system's folder for such files.
+fn numbered_folder(rt: HostRuntime, number: u16) -> Option<PathBuf> {
+    let Ok(name) = format!(in rt.alloc(); "tmem_file_test_{number}") else {
+        return None;
+    };
+    match env::temp_dir(&rt) {
+        Ok(folder) => folder.join(rt.alloc(), name.as_str()).ok(),
+        Err(_) => None,
     }
 }
 
-/// A new folder.
-fn make_folder(rt: &HostRuntime) -> Result<PathBuf, Fail> {
+/// A new folder, whose path was free.
+fn make_folder(rt: HostRuntime) -> Option<PathBuf> {
     for number in 0..1000 {
         let folder = numbered_folder(rt, number)?;
-        if is_made(rt, folder.as_str())? {
-            return Ok(folder);
+        if fs::create_dir(&rt, folder.as_str()).is_ok() {
+            return Some(folder);
         }
     }
-    Err(Fail::from("no folder to test in"))
+    None
 }
 
-/// How many files are in a folder, where it is read.
-fn files_in(rt: &HostRuntime, folder: &str) -> Option<u64> {
+/// The paths in a new folder.
+fn make_places(rt: HostRuntime) -> Option<Places> {
+    let folder = make_folder(rt)?;
+    let Ok(store) = folder.join(rt.alloc(), "store") else {
+        return None;
+    };
+    match store.join(rt.alloc(), "store") {
+        Ok(within) => Some(Places {
+            folder,
+            store,
+            within,
+        }),
+        Err(_) => None,
+    }
+}
+
+/// The text of a path.
+fn path_of<'a>(places: &'a Places, place: Place<'a>) -> &'a str {
+    match place {
+        Place::Folder => places.folder.as_str(),
+        Place::Store => places.store.as_str(),
+        Place::Within => places.within.as_str(),
+        Place::At(path) => path,
+    }
+}
+
+/// How many files are in a folder, or the greatest number where it is not read.
+fn files_in(rt: HostRuntime, folder: &str) -> u64 {
+    let Ok(entries) = fs::read_dir(&rt, folder) else {
+        return u64::MAX;
+    };
     let mut count = 0u64;
-    for entry in fs::read_dir(rt, folder).ok()? {
-        if entry.is_err() {
-            return None;
-        }
-        count = count.saturating_add(1);
+    for entry in entries {
+        let more = if entry.is_ok() { 1 } else { u64::MAX };
+        count = count.saturating_add(more);
     }
-    Some(count)
+    count
 }
 
-/// Whether so many files are in a folder, and whether one of them has a name.
-fn stand(rt: &HostRuntime, folder: &str, count: u64, path: &str, is_there: bool) -> bool {
-    files_in(rt, folder) == Some(count) && fs::exists(rt, path).ok() == Some(is_there)
+/// Whether so many files are in the folder, and whether one of them is the store.
+fn stand(rt: HostRuntime, places: &Places, count: u64, is_there: bool) -> bool {
+    files_in(rt, places.folder.as_str()) == count
+        && fs::exists(&rt, places.store.as_str()).ok() == Some(is_there)
+}
+
+/// Whether another file may be made beside a new one, until that is named.
+fn another_is_made(rt: HostRuntime, places: &Places) -> bool {
+    match NewFile::create(&rt, places.store.as_str(), 1) {
+        Ok(other) => {
+            let is_so = stand(rt, places, 2, false);
+            other.discard(&rt);
+            is_so
+        }
+        Err(_) => false,
+    }
+}
+
+/// Whether a file is opened with so many bytes at most, and answers these acts so.
+fn is_opened(rt: HostRuntime, path: &str, most: u64, acts: &[Act]) -> bool {
+    match FileDisk::open(&rt, path, most) {
+        Ok(mut disk) => are_so(&mut disk, acts),
+        Err(_) => false,
+    }
+}
+
+fn open_fails(rt: HostRuntime, path: &str) -> bool {
+    matches!(FileDisk::open(&rt, path, u64::MAX), Err(Fault::Device))
+}
+
+fn create_fails(rt: HostRuntime, path: &str) -> bool {
+    matches!(NewFile::create(&rt, path, FILE_BYTES), Err(Fault::Device))
+}
+
+fn has(rt: HostRuntime, path: &str, bytes: &[u8]) -> bool {
+    match fs::read(&rt, path) {
+        Ok(had) => had.as_slice() == bytes,
+        Err(_) => false,
+    }
+}
+
+fn is_done(rt: HostRuntime, places: &Places, step: &Step) -> bool {
+    match step {
+        Step::Stand(count, is_there) => stand(rt, places, *count, *is_there),
+        Step::CreatesAnother => another_is_made(rt, places),
+        Step::OpensFile(most, acts) => is_opened(rt, places.store.as_str(), *most, acts),
+        Step::OpenFails(place) => open_fails(rt, path_of(places, *place)),
+        Step::CreateFails(place) => create_fails(rt, path_of(places, *place)),
+        Step::PutsBytes(bytes) => fs::write(&rt, places.store.as_str(), *bytes).is_ok(),
+        Step::KeepsBytes(bytes) => has(rt, places.store.as_str(), bytes),
+    }
+}
+
+fn are_done(rt: HostRuntime, places: &Places, steps: &[Step]) -> bool {
+    for step in steps {
+        if !is_done(rt, places, step) {
+            return false;
+        }
+    }
+    true
+}
+
+/// Whether a file is made and named so, or refused so where it would be named.
+fn is_made(rt: HostRuntime, places: &Places, making: &Making) -> bool {
+    let Ok(mut new) = NewFile::create(&rt, places.store.as_str(), FILE_BYTES) else {
+        return false;
+    };
+    let was_so = are_so(&mut new.disk, making.new) && are_done(rt, places, making.beside);
+    match new.give_name(&rt) {
+        Ok(disk) => was_so && making.is_named && is_named(rt, places, disk, making),
+        Err(fault) => was_so && !making.is_named && fault == Fault::Device,
+    }
+}
+
+fn is_named(rt: HostRuntime, places: &Places, mut disk: FileDisk, making: &Making) -> bool {
+    are_done(rt, places, making.behind) && are_so(&mut disk, making.named)
+}
+
+fn are_made(rt: HostRuntime, places: &Places, makings: &[Making]) -> bool {
+    for making in makings {
+        if !is_made(rt, places, making) {
+            return false;
+        }
+    }
+    true
+}
+
+/// Whether this is done in a new folder, which is removed.
+fn is_well_done(rt: HostRuntime, makings: &[Making], steps: &[Step]) -> bool {
+    match make_places(rt) {
+        Some(places) => {
+            let is_so = are_made(rt, &places, makings) && are_done(rt, &places, steps);
+            fs::remove_dir_all(&rt, places.folder.as_str()).is_ok() && is_so
+        }
+        None => false,
+    }
 }
 
 /// What is done to a file that is new, to the same once it is named, and to it in another opening; and to one of no byte.
@@ -75,148 +235,60 @@ const IN_PART: &[Act<'static>] = &[Size(4096), Reads(4093, b"\0ab")];
 
 const EMPTY: &[Act<'static>] = &[Size(0)];
 
-/// Whether another file may be made beside a new one, until that is named.
-fn another_is_made(rt: &HostRuntime, folder: &str, path: &str) -> Result<bool, Fault> {
-    let other = NewFile::create(rt, path, 1)?;
-    let is_so = stand(rt, folder, 2, path, false);
-    other.discard(rt);
-    Ok(is_so)
-}
+// It is alone in the folder once it is named, and nobody else opens it while it is open.
+static NAMING: &[Making<'static>] = &[Making {
+    new: NEW,
+    beside: &[Step::CreatesAnother],
+    is_named: true,
+    behind: &[Step::Stand(1, true), Step::OpenFails(Place::Store)],
+    named: NAMED,
+}];
 
-fn is_new(rt: &HostRuntime, folder: &str, path: &str, disk: &mut FileDisk) -> Result<bool, Fault> {
-    Ok(are_so(rt.alloc(), disk, NEW)? && another_is_made(rt, folder, path)?)
-}
-
-/// Whether a file is named alone in the folder, and nobody else opens it while it is open.
-fn has_its_name(
-    rt: &HostRuntime,
-    folder: &str,
-    path: &str,
-    disk: &mut FileDisk,
-) -> Result<bool, Fault> {
-    Ok(
-        stand(rt, folder, 1, path, true)
-            && is_refused(rt, path, false)
-            && are_so(rt.alloc(), disk, NAMED)?,
-    )
-}
-
-/// Makes a file and places it: whether it is as it should be before and behind.
-fn is_made_and_named(rt: &HostRuntime, folder: &str, path: &str) -> Result<bool, Fault> {
-    let mut new = NewFile::create(rt, path, FILE_BYTES)?;
-    let was_new = is_new(rt, folder, path, &mut new.disk);
-    let mut disk = new.give_name(rt)?;
-    Ok(was_new? && has_its_name(rt, folder, path, &mut disk)?)
-}
-
-/// Whether a file is opened with so many bytes at most, and answers these acts so.
-fn is_opened(rt: &HostRuntime, path: &str, most: u64, acts: &[Act]) -> Result<bool, Fault> {
-    let mut disk = FileDisk::open(rt, path, most)?;
-    Ok(are_so(rt.alloc(), &mut disk, acts)?)
-}
-
-/// The same, and whether the next openings find it, and the first bytes of it alone where no more are asked for.
-fn is_found_again(rt: &HostRuntime, folder: &str, path: &str) -> Result<bool, Fault> {
-    Ok(
-        is_made_and_named(rt, folder, path)?
-            && is_opened(rt, path, FILE_BYTES, AGAIN)?
-            && is_opened(rt, path, u64::MAX, AGAIN)?
-            && is_opened(rt, path, 4096, IN_PART)?,
-    )
-}
-
-/// Whether a path is neither opened nor, where it is asked, made.
-fn is_refused(rt: &HostRuntime, path: &str, is_made: bool) -> bool {
-    let refused = Some(Fault::Device);
-    FileDisk::open(rt, path, u64::MAX).err() == refused
-        && (!is_made || NewFile::create(rt, path, FILE_BYTES).err() == refused)
-}
-
-/// Whether what is no file is refused, and so is a missing file, by this name in a folder.
-fn are_refused(rt: &HostRuntime, folder: &str, missing: &PathBuf) -> Result<bool, AllocError> {
-    let far = missing.join(rt.alloc(), "store")?;
-    Ok(
-        is_refused(rt, folder, true)
-            && is_refused(rt, far.as_str(), true)
-            && is_refused(rt, "/dev/full", true)
-            && is_refused(rt, missing.as_str(), false)
-            && is_refused(rt, "", false)
-            && is_refused(rt, "/dev/zero", false)
-            && files_in(rt, folder) == Some(0),
-    )
-}
-
-/// The same, and whether an empty file is none of them.
-fn is_empty_alone_opened(rt: &HostRuntime, folder: &str, path: &PathBuf) -> Result<bool, Fault> {
-    Ok(
-        are_refused(rt, folder, path)?
-            && fs::write(rt, path.as_str(), "".as_bytes()).is_ok()
-            && is_opened(rt, path.as_str(), FILE_BYTES, EMPTY)?,
-    )
-}
-
-/// Whether no file is made under a name that another file takes.
-fn is_taken(rt: &HostRuntime, path: &str) -> bool {
-    fs::write(rt, path, b"kept".as_slice()).is_ok()
-        && NewFile::create(rt, path, FILE_BYTES).err() == Some(Fault::Device)
-}
-
-/// Whether a name is taken before a new file is named, which is refused then.
-fn is_late(rt: &HostRuntime, path: &str) -> Result<bool, Fault> {
-    let late = NewFile::create(rt, path, FILE_BYTES)?;
-    let is_taken = is_taken(rt, path);
-    Ok(late.give_name(rt).err() == Some(Fault::Device) && is_taken)
-}
-
-/// Whether what took the name has kept it, alone.
-fn is_kept(rt: &HostRuntime, folder: &str, path: &str) -> bool {
-    match fs::read(rt, path) {
-        Ok(kept) => kept.as_slice() == b"kept".as_slice() && files_in(rt, folder) == Some(1),
-        Err(_) => false,
-    }
-}
-
-/// What is done in a folder.
-#[derive(Clone, Copy)]
-enum Doing {
-    Places,
-    Refuses,
-    ComesLate,
-}
-
-/// Whether it ends as it should in a folder that is empty.
-fn is_well_done(rt: &HostRuntime, folder: &PathBuf, doing: Doing) -> Result<bool, Fault> {
-    let path = folder.join(rt.alloc(), "store")?;
-    let (folder, name) = (folder.as_str(), path.as_str());
-    match doing {
-        Doing::Places => is_found_again(rt, folder, name),
-        Doing::Refuses => is_empty_alone_opened(rt, folder, &path),
-        Doing::ComesLate => Ok(is_late(rt, name)? && is_kept(rt, folder, name)),
-    }
-}
-
-/// The same in a new folder, which is removed.
-fn is_well_done_anew(rt: &HostRuntime, doing: Doing) -> Result<bool, Fail> {
-    let folder = make_folder(rt)?;
-    let is_so = is_well_done(rt, &folder, doing);
-    fs::remove_dir_all(rt, folder.as_str())?;
-    Ok(is_so?)
-}
+// The first bytes of it alone are found where no more are asked for.
+static OPENINGS: &[Step<'static>] = &[
+    Step::OpensFile(FILE_BYTES, AGAIN),
+    Step::OpensFile(u64::MAX, AGAIN),
+    Step::OpensFile(4096, IN_PART),
+];
 
 #[test]
-fn a_named_file_is_read_by_the_next_opening(rt: HostRuntime) -> Result<(), Fail> {
-    assert!(rt; is_well_done_anew(&rt, Doing::Places)?);
-    Ok(())
+fn a_named_file_is_read_by_the_next_opening(rt: HostRuntime) {
+    assert!(rt; is_well_done(rt, NAMING, OPENINGS));
 }
 
-#[test]
-fn refuses_what_is_no_file(rt: HostRuntime) -> Result<(), Fail> {
-    assert!(rt; is_well_done_anew(&rt, Doing::Refuses)?);
-    Ok(())
-}
+// An empty file is none of them.
+static REFUSALS: &[Step<'static>] = &[
+    Step::OpenFails(Place::Folder),
+    Step::CreateFails(Place::Folder),
+    Step::OpenFails(Place::Within),
+    Step::CreateFails(Place::Within),
+    Step::OpenFails(Place::At("/dev/full")),
+    Step::CreateFails(Place::At("/dev/full")),
+    Step::OpenFails(Place::Store),
+    Step::OpenFails(Place::At("")),
+    Step::OpenFails(Place::At("/dev/zero")),
+    Step::Stand(0, false),
+    Step::PutsBytes(b""),
+    Step::OpensFile(FILE_BYTES, EMPTY),
+];
 
 #[test]
-fn never_takes_a_name_from_a_file(rt: HostRuntime) -> Result<(), Fail> {
-    assert!(rt; is_well_done_anew(&rt, Doing::ComesLate)?);
-    Ok(())
+fn refuses_what_is_no_file(rt: HostRuntime) {
+    assert!(rt; is_well_done(rt, &[], REFUSALS));
+}
+
+// The name is taken before a new file is named, which is refused then.
+static LATE: &[Making<'static>] = &[Making {
+    new: &[],
+    beside: &[Step::PutsBytes(b"kept"), Step::CreateFails(Place::Store)],
+    is_named: false,
+    behind: &[],
+    named: &[],
+}];
+
+static KEPT: &[Step<'static>] = &[Step::KeepsBytes(b"kept"), Step::Stand(1, true)];
+
+#[test]
+fn never_takes_a_name_from_a_file(rt: HostRuntime) {
+    assert!(rt; is_well_done(rt, LATE, KEPT));
 }

@@ -4,34 +4,25 @@ ghost use Rattle.std.specs.Prelude.{◌≡◌, ◌<◌, [], ◌∷◌, false, Al
 ghost use Rattle.tmem_journal.specs.Held.{journal_layout, journal_state};
 ghost use Rattle.tmem_effect.specs.State.{AreApart, StaysWithin, is_empty};
 
+use super::effects::effect_of;
 use std::alloc::Global;
 use tmem_disk::Disk;
 use tmem_effect::Effect;
-use tmem_fault::{Fault, Name};
+use tmem_fault::Fault;
 use tmem_journal::Journal;
 use tmem_state::Batch;
 
-/// Flushes one record that writes a number to a variable.
-pub(super) fn flush_to<D: Disk>(
+/// Flushes one record of these writes and checks. `Full` where there is none that may be flushed.
+pub(super) fn flush<D: Disk>(
     alloc: Global,
     journal: &mut Journal<D>,
-    var: u16,
-    number: i64,
+    writes: &[(u16, i64)],
+    checks: &[&str],
 ) -> Result<u64, Fault> {
-    flush(alloc, journal, &effect_to(var, number))
-}
-
-/// Flushes one record that writes a number to each of two variables.
-pub(super) fn flush_both<D: Disk>(
-    alloc: Global,
-    journal: &mut Journal<D>,
-    one: u16,
-    other: u16,
-    number: i64,
-) -> Result<u64, Fault> {
-    let mut effect = effect_to(one, number);
-    effect.writes.put(other, number);
-    flush(alloc, journal, &effect)
+    match effect_of(writes, checks, &[]) {
+        Some(made) => flush_effect(alloc, journal, &made.effect),
+        None => Err(Fault::Full),
+    }
 }
 
 /// Flushes two records, each of which writes a number to one variable.
@@ -42,34 +33,31 @@ pub(super) fn flush_two<D: Disk>(
     other: u16,
     number: i64,
 ) -> Result<u64, Fault> {
-    let (first, second) = (effect_to(one, number), effect_to(other, number));
+    let first = effect_to(one, number);
+    let second = effect_to(other, number);
     if !may_flush_two(journal, &first, &second) {
         return Err(Fault::Full);
     }
-    let batch = batch_of_two(alloc, &first, &second)?;
-    journal.flush(&batch)
+    match batch_of_two(alloc, &first, &second) {
+        Ok(batch) => journal.flush(&batch),
+        Err(fault) => Err(fault),
+    }
 }
 
-/// Flushes one record that checks a name of these letters.
-pub(super) fn flush_name<D: Disk>(
+fn flush_effect<D: Disk>(
     alloc: Global,
     journal: &mut Journal<D>,
-    letters: &str,
-) -> Result<u64, Fault> {
-    let mut effect = Effect::new();
-    effect.check(&Name::new(letters)?);
-    flush(alloc, journal, &effect)
-}
-
-/// Flushes one record. `Full` where it is none that may be flushed.
-fn flush<D: Disk>(alloc: Global, journal: &mut Journal<D>, effect: &Effect) -> Result<u64, Fault>
+    effect: &Effect,
+) -> Result<u64, Fault>
     requires { AreApart effect.now.names effect.now.retired }
 {
     if effect.is_empty() || !may_flush(journal, effect) {
         return Err(Fault::Full);
     }
-    let batch = batch_of(alloc, effect)?;
-    journal.flush(&batch)
+    match batch_of(alloc, effect) {
+        Ok(batch) => journal.flush(&batch),
+        Err(fault) => Err(fault),
+    }
 }
 
 /// The batch of one record.
@@ -162,28 +150,23 @@ pub(super) fn is_run_flushed<D: Disk>(
     alloc: Global,
     journal: &mut Journal<D>,
     batches: u16,
-) -> Result<bool, Fault> {
+) -> bool {
     for batch in 0..batches {
         let is_new = journal.count() <= u64::from(batch);
-        if is_new && flush_of_run(alloc, journal, batch)? != u64::from(batch) + 1 {
-            return Ok(false);
+        if is_new && !is_flushed_of_run(alloc, journal, batch) {
+            return false;
         }
     }
-    Ok(true)
+    true
 }
 
-fn flush_of_run<D: Disk>(
-    alloc: Global,
-    journal: &mut Journal<D>,
-    batch: u16,
-) -> Result<u64, Fault> {
-    match flush_to(alloc, journal, run_var(batch), run_number(batch)) {
-        Err(Fault::LogFull) => {
-            journal.checkpoint()?;
-            flush_to(alloc, journal, run_var(batch), run_number(batch))
-        }
+fn is_flushed_of_run<D: Disk>(alloc: Global, journal: &mut Journal<D>, batch: u16) -> bool {
+    let write = [(run_var(batch), run_number(batch))];
+    let flushed = match flush(alloc, journal, &write, &[]) {
+        Err(Fault::LogFull) if journal.checkpoint().is_ok() => flush(alloc, journal, &write, &[]),
         answer => answer,
-    }
+    };
+    flushed == Ok(u64::from(batch) + 1)
 }
 
 /// Whether each variable has what a run of so many batches leaves in it.

@@ -6,7 +6,6 @@ use super::acts::Act::{
     Case, Chooses, Formats, Loads, Makes, Puts, Restarts, Row, StopAtWrite, Syncs, Writes,
 };
 use super::acts::{Act, play};
-use std::test::Fail;
 use tmem_disk::Fill::{Byte, New, Old};
 
 static IMAGES: &[Act<'static>] = &[
@@ -44,8 +43,8 @@ static IMAGES: &[Act<'static>] = &[
 ];
 
 #[test]
-fn the_greater_open_image_is_chosen(rt: HostRuntime) -> Result<(), Fail> {
-    play(&rt, rt.alloc(), IMAGES)
+fn the_greater_open_image_is_chosen(rt: HostRuntime) {
+    play(&rt, IMAGES);
 }
 
 static CRASHES: &[Act<'static>] = &[
@@ -205,6 +204,6 @@ static CRASHES: &[Act<'static>] = &[
 ];
 
 #[test]
-fn a_crash_leaves_the_old_image_or_the_new_one(rt: HostRuntime) -> Result<(), Fail> {
-    play(&rt, rt.alloc(), CRASHES)
+fn a_crash_leaves_the_old_image_or_the_new_one(rt: HostRuntime) {
+    play(&rt, CRASHES);
 }

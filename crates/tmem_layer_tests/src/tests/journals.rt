@@ -6,7 +6,6 @@ use super::acts::Act::{
     Made, Makes, Opens, Reads, Restarts, Row, StopAtWrite, Syncs, Writes,
 };
 use super::acts::{Act, play};
-use std::test::Fail;
 use tmem_disk::Fill::{Byte, New, Old};
 
 static FLUSHES: &[Act<'static>] = &[
@@ -187,8 +186,8 @@ static FLUSHES: &[Act<'static>] = &[
 ];
 
 #[test]
-fn a_flush_is_durable_or_as_before(rt: HostRuntime) -> Result<(), Fail> {
-    play(&rt, rt.alloc(), FLUSHES)
+fn a_flush_is_durable_or_as_before(rt: HostRuntime) {
+    play(&rt, FLUSHES);
 }
 
 static REFUSALS: &[Act<'static>] = &[
@@ -253,8 +252,8 @@ static REFUSALS: &[Act<'static>] = &[
 ];
 
 #[test]
-fn what_is_no_store_is_refused(rt: HostRuntime) -> Result<(), Fail> {
-    play(&rt, rt.alloc(), REFUSALS)
+fn what_is_no_store_is_refused(rt: HostRuntime) {
+    play(&rt, REFUSALS);
 }
 
 static SLOTS: &[Act<'static>] = &[
@@ -308,8 +307,8 @@ static SLOTS: &[Act<'static>] = &[
 ];
 
 #[test]
-fn an_open_slot_behind_the_log_is_closed_or_damage(rt: HostRuntime) -> Result<(), Fail> {
-    play(&rt, rt.alloc(), SLOTS)
+fn an_open_slot_behind_the_log_is_closed_or_damage(rt: HostRuntime) {
+    play(&rt, SLOTS);
 }
 
 static EDGES: &[Act<'static>] = &[
@@ -370,8 +369,8 @@ static EDGES: &[Act<'static>] = &[
 ];
 
 #[test]
-fn block_0_is_opened_last_and_the_greatest_numbers_stay(rt: HostRuntime) -> Result<(), Fail> {
-    play(&rt, rt.alloc(), EDGES)
+fn block_0_is_opened_last_and_the_greatest_numbers_stay(rt: HostRuntime) {
+    play(&rt, EDGES);
 }
 
 static CONTENTS: &[Act<'static>] = &[
@@ -474,6 +473,6 @@ static CONTENTS: &[Act<'static>] = &[
 ];
 
 #[test]
-fn a_store_has_these_bytes_and_no_others(rt: HostRuntime) -> Result<(), Fail> {
-    play(&rt, rt.alloc(), CONTENTS)
+fn a_store_has_these_bytes_and_no_others(rt: HostRuntime) {
+    play(&rt, CONTENTS);
 }

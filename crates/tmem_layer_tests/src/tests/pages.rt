@@ -8,7 +8,6 @@ use super::acts::Act::{
     FlushesTwo, Formats, HoldsAll, HoldsNames, HoldsRun, Made, MadeBytes, Makes, Opens, Row, Wrote,
 };
 use super::acts::{Act, play};
-use std::test::Fail;
 
 static PAGES: &[Act<'static>] = &[
     Case("a checkpoint writes the pages that may differ in its copy, and the header"),
@@ -213,13 +212,13 @@ static LARGE: &[Act<'static>] = &[
 ];
 
 #[test]
-fn a_checkpoint_of_sixteen_pages_writes_those_that_changed(rt: HostRuntime) -> Result<(), Fail> {
-    play(&rt, rt.alloc(), LARGE)
+fn a_checkpoint_of_sixteen_pages_writes_those_that_changed(rt: HostRuntime) {
+    play(&rt, LARGE);
 }
 
 #[test]
-fn a_checkpoint_writes_changed_pages(rt: HostRuntime) -> Result<(), Fail> {
-    play(&rt, rt.alloc(), PAGES)
+fn a_checkpoint_writes_changed_pages(rt: HostRuntime) {
+    play(&rt, PAGES);
 }
 
 // 200 variables have four pages
@@ -300,6 +299,6 @@ static RUNS: &[Act<'static>] = &[
 ];
 
 #[test]
-fn a_long_run_is_found_again(rt: HostRuntime) -> Result<(), Fail> {
-    play(&rt, rt.alloc(), RUNS)
+fn a_long_run_is_found_again(rt: HostRuntime) {
+    play(&rt, RUNS);
 }

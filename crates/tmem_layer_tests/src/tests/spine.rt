@@ -67,7 +67,7 @@ fn one_effect<N: Naming>(opened: Opened) -> Option<Told>
 #[test]
 fn a_look_is_fresh(rt: HostRuntime) -> Result<(), Fail> {
     let opened = Opened::new(rt.alloc(), START)?;
-    assert_eq!(rt; one_effect::<Brand>(opened), Some((5, 5, 5, 6, 5)));
+    assert!(rt; one_effect::<Brand>(opened) == Some((5, 5, 5, 6, 5)));
     Ok(())
 }
 
@@ -88,7 +88,7 @@ fn passes<N: Naming>(opened: Opened) -> (u64, u64)
 #[test]
 fn a_dropped_pass_is_not_given_out_again(rt: HostRuntime) -> Result<(), Fail> {
     let opened = Opened::new(rt.alloc(), 0)?;
-    assert_eq!(rt; passes::<Brand>(opened), (32, 32));
+    assert!(rt; passes::<Brand>(opened) == (32, 32));
     Ok(())
 }
 
@@ -176,6 +176,6 @@ fn together<N: Naming + Send + Sync, R: Threads + Sync>(
 #[test]
 fn passes_look_while_effects_become_durable(rt: HostRuntime) -> Result<(), Fail> {
     let opened = Opened::new(rt.alloc(), START)?;
-    assert_eq!(rt; together::<Brand, _>(&rt, opened), Some((204, true, 205)));
+    assert!(rt; together::<Brand, _>(&rt, opened) == Some((204, true, 205)));
     Ok(())
 }

@@ -7,7 +7,6 @@ use super::acts::Act::{
     Made, MakesWith, Opens, Reads, Row, Writes, Wrote,
 };
 use super::acts::{Act, play};
-use std::test::Fail;
 
 /// A store that was formatted.
 const FRESH: &[(u64, &[u8])] = &[
@@ -192,6 +191,9 @@ static OPENED: &[Act<'static>] = &[
     HoldsNames(&["nonneg", "ordered"]),
     Closes,
     Made(None, 0, 1),
+];
+
+static OPENED_WITH_TWO: &[Act<'static>] = &[
     Case("two images and two batches"),
     Row,
     MakesWith(23040, TWO_BATCHES),
@@ -236,6 +238,9 @@ static OPENED: &[Act<'static>] = &[
     HoldsNames(&["nonneg", "ordered", "sum"]),
     Closes,
     Made(None, 0, 1),
+];
+
+static BEHIND: &[Act<'static>] = &[
     // behind a migration too, nothing is known of any page
     Case("the checkpoint behind a migration writes all pages"),
     Row,
@@ -297,6 +302,8 @@ static OPENED: &[Act<'static>] = &[
 ];
 
 #[test]
-fn a_store_of_version_1_becomes_one_of_version_2(rt: HostRuntime) -> Result<(), Fail> {
-    play(&rt, rt.alloc(), OPENED)
+fn a_store_of_version_1_becomes_one_of_version_2(rt: HostRuntime) {
+    play(&rt, OPENED);
+    play(&rt, OPENED_WITH_TWO);
+    play(&rt, BEHIND);
 }

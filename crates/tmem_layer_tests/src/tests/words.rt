@@ -1,10 +1,10 @@
 //! Names, and the lines of refusals.
-use std::alloc::{AllocError, Global};
-use std::test::Fail;
+use super::rows::none_other;
+use std::alloc::Global;
 use tmem_fault::{Cause, Fault, Name};
 
 /// Texts, and whether they are names.
-const TEXTS: &[(&str, bool)] = &[
+static TEXTS: &[(&'static str, bool)] = &[
     ("a", true),
     ("nonneg", true),
     ("abcdefghijklmnop", true),
@@ -29,60 +29,86 @@ fn makes_name(text: &str) -> Option<bool> {
     }
 }
 
-#[test]
-fn a_name_is_one_to_sixteen_letters(rt: HostRuntime) -> Result<(), Fail> {
-    for (text, is_name) in TEXTS {
-        assert!(rt; makes_name(text) == Some(*is_name), "{text}");
+fn other_text() -> Option<usize> {
+    for (row, (text, is_name)) in TEXTS.iter().enumerate() {
+        if makes_name(text) != Some(*is_name) {
+            return Some(row);
+        }
     }
-    assert!(rt; is_before("ab", "b")? && is_before("a", "aa")?);
-    Ok(())
+    None
 }
 
 /// Whether one name is less than another.
-fn is_before(one: &str, other: &str) -> Result<bool, Fault> {
-    Ok(Name::new(one)? < Name::new(other)?)
-}
-
-const LINES: [(Fault, &'static str); 18] = [
-    (Fault::Memory, "fault 1 memory"),
-    (Fault::Device, "fault 2 device"),
-    (Fault::Closed, "fault 3 closed"),
-    (Fault::Unknown, "fault 4 unknown"),
-    (Fault::Full, "fault 5 full"),
-    (Fault::LogFull, "fault 6 logfull"),
-    (Fault::Conflict, "fault 7 conflict"),
-    (Fault::NotFormatted, "fault 8 notformatted"),
-    (Fault::Damaged, "fault 9 damaged"),
-    (Fault::BadPlan(Cause::TooDeep), "fault 12 badplan 1"),
-    (Fault::BadPlan(Cause::TooManyWrites), "fault 12 badplan 3"),
-    (Fault::BadPlan(Cause::UnknownName), "fault 12 badplan 9"),
-    (Fault::BadPlan(Cause::TooManyRetires), "fault 12 badplan 10"),
-    (Fault::BadName, "fault 13 badname"),
-    (Fault::BadFootprint, "fault 14 badfootprint"),
-    (Fault::Spent, "fault 15 spent"),
-    (Fault::NoSeat, "fault 16 noseat"),
-    (Fault::Geometry, "fault 17 geometry"),
-];
-
-fn is_printed(alloc: Global, fault: Fault, line: &str) -> Result<bool, AllocError> {
-    let printed = format!(in alloc; "{fault}")?;
-    Ok(printed.as_str() == line)
-}
-
-/// Whether a refusal that names an invariant has it in its line.
-fn are_named(alloc: Global) -> Result<bool, Fault> {
-    let name = Name::new("nonneg")?;
-    Ok(
-        is_printed(alloc, Fault::Missing(name), "fault 10 missing nonneg")?
-            && is_printed(alloc, Fault::Broken(name), "fault 11 broken nonneg")?,
-    )
+fn is_before(one: &str, other: &str) -> bool {
+    match (Name::new(one), Name::new(other)) {
+        (Ok(one), Ok(other)) => one < other,
+        _ => false,
+    }
 }
 
 #[test]
-fn each_fault_has_its_line(rt: HostRuntime) -> Result<(), Fail> {
-    for (fault, line) in LINES {
-        assert!(rt; is_printed(rt.alloc(), fault, line)?, "{line}");
+fn a_name_is_one_to_sixteen_letters(rt: HostRuntime) {
+    none_other(&rt, other_text());
+    assert!(rt; is_before("ab", "b") && is_before("a", "aa"));
+}
+
+/// A refusal for each row, with its line.
+fn refusal_at(row: usize) -> Option<(Fault, &'static str)> {
+    let refusal = match row {
+        0 => (Fault::Memory, "fault 1 memory"),
+        1 => (Fault::Device, "fault 2 device"),
+        2 => (Fault::Closed, "fault 3 closed"),
+        3 => (Fault::Unknown, "fault 4 unknown"),
+        4 => (Fault::Full, "fault 5 full"),
+        5 => (Fault::LogFull, "fault 6 logfull"),
+        6 => (Fault::Conflict, "fault 7 conflict"),
+        7 => (Fault::NotFormatted, "fault 8 notformatted"),
+        8 => (Fault::Damaged, "fault 9 damaged"),
+        9 => (Fault::BadPlan(Cause::TooDeep), "fault 12 badplan 1"),
+        10 => (Fault::BadPlan(Cause::TooManyWrites), "fault 12 badplan 3"),
+        11 => (Fault::BadPlan(Cause::UnknownName), "fault 12 badplan 9"),
+        12 => (Fault::BadPlan(Cause::TooManyRetires), "fault 12 badplan 10"),
+        13 => (Fault::BadName, "fault 13 badname"),
+        14 => (Fault::BadFootprint, "fault 14 badfootprint"),
+        15 => (Fault::Spent, "fault 15 spent"),
+        16 => (Fault::NoSeat, "fault 16 noseat"),
+        17 => (Fault::Geometry, "fault 17 geometry"),
+        _ => return None,
+    };
+    Some(refusal)
+}
+
+fn is_printed(alloc: Global, fault: Fault, line: &str) -> bool {
+    match format!(in alloc; "{fault}") {
+        Ok(printed) => printed.as_str() == line,
+        Err(_) => false,
     }
-    assert!(rt; are_named(rt.alloc())?);
-    Ok(())
+}
+
+/// The first of 18 rows whose line is another.
+fn other_line(alloc: Global) -> Option<usize> {
+    for row in 0..18 {
+        match refusal_at(row) {
+            Some((fault, line)) if is_printed(alloc, fault, line) => {}
+            _ => return Some(row),
+        }
+    }
+    None
+}
+
+/// Whether a refusal that names an invariant has it in its line.
+fn are_named(alloc: Global) -> bool {
+    match Name::new("nonneg") {
+        Ok(name) => {
+            is_printed(alloc, Fault::Missing(name), "fault 10 missing nonneg")
+                && is_printed(alloc, Fault::Broken(name), "fault 11 broken nonneg")
+        }
+        Err(_) => false,
+    }
+}
+
+#[test]
+fn each_fault_has_its_line(rt: HostRuntime) {
+    none_other(&rt, other_line(rt.alloc()));
+    assert!(rt; are_named(rt.alloc()));
 }
