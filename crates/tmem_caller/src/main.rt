@@ -1,9 +1,9 @@
 //! `tmem_caller`: makes calls of fronts and of desks. It is a tool for tests. It does what each word of its command line says, one after
 //! another: `serve` serves pieces of input, `lines` prints lines that no row prints, and `refusals` makes calls that may be refused memory.
 //! Words are read as they come: what those before a wrong one printed stays, and only the first `serve` finds its row on the input. A bad row
-//! has status 3.
+//! has status 3, a wrong word 2, and what fails otherwise 1.
 //!
-//! A row of `serve` is a JSON object with these keys. Others are for its reader.
+//! A row of `serve` is a JSON object with these keys. Other keys are for its reader.
 //!
 //! | Key | What it says |
 //! |---|---|

@@ -64,8 +64,12 @@ fn transfer<D: Disk + Drop, T: Invariants + Drop, S: StoredSteps + Drop>(
 {
     let is_moved = commit(world, move_once(alloc)?)?;
     let is_lost = commit(world, write(alloc, 1, 0)?)?;
-    world.step(Event::Flush);
-    world.step(Event::Reopen);
+    if let Reply::Fault(fault) = world.step(Event::Flush) {
+        return Err(fault);
+    }
+    if let Reply::Fault(fault) = world.step(Event::Reopen) {
+        return Err(fault);
+    }
     if !world.is_open() {
         return Err(Fault::Closed);
     }

@@ -169,14 +169,14 @@ fn other_in_row(alloc: Global, case: &[Act], row: &[Act]) -> Option<usize> {
         disk,
         session: None,
     };
-    match other_in(alloc, &mut store, case) {
-        None => other_in(alloc, &mut store, row),
+    match differing_in(alloc, &mut store, case) {
+        None => differing_in(alloc, &mut store, row),
         other => other,
     }
 }
 
 /// The first of the acts up to the next mark that is answered otherwise.
-fn other_in(alloc: Global, store: &mut Store, acts: &[Act]) -> Option<usize> {
+fn differing_in(alloc: Global, store: &mut Store, acts: &[Act]) -> Option<usize> {
     for (index, act) in acts.iter().enumerate() {
         if matches!(act, Act::Case(_) | Act::Row) {
             return None;

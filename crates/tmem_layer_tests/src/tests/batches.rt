@@ -1,6 +1,6 @@
 //! The bytes of records, of both versions of the format.
 use super::effects::{are_spelled, effect_of};
-use super::rows::none_other;
+use super::rows::assert_no_row_differs;
 use std::alloc::{AllocError, Global};
 use tmem_record::{Decoded, SLOT_BODY_BYTES, decode_batch, encode_batch};
 use tmem_state::Version::{One, Two};
@@ -162,7 +162,7 @@ fn is_record_of_its(alloc: Global, record: &Record) -> bool {
         && is_read(alloc, record.in_front, 4, Two, &found)
 }
 
-fn other_record(alloc: Global) -> Option<usize> {
+fn differing_record(alloc: Global) -> Option<usize> {
     for (row, record) in RECORDS.iter().enumerate() {
         if !is_record_of_its(alloc, record) {
             return Some(row);
@@ -173,7 +173,7 @@ fn other_record(alloc: Global) -> Option<usize> {
 
 #[test]
 fn a_record_has_these_bytes(rt: HostRuntime) {
-    none_other(&rt, other_record(rt.alloc()));
+    assert_no_row_differs(&rt, differing_record(rt.alloc()));
 }
 
 /// The bytes of as many records, each of which writes -1 to one of these variables.
@@ -389,7 +389,7 @@ fn is_batch(alloc: Global, bytes: &[u8], version: Version) -> Option<bool> {
     }
 }
 
-fn other_content(alloc: Global) -> Option<usize> {
+fn differing_content(alloc: Global) -> Option<usize> {
     for (row, (bytes, first, second)) in CONTENTS.iter().enumerate() {
         let in_first = is_batch(alloc, bytes, One);
         let in_second = is_batch(alloc, bytes, Two);
@@ -402,7 +402,7 @@ fn other_content(alloc: Global) -> Option<usize> {
 
 #[test]
 fn a_batch_with_a_fault_is_not_read(rt: HostRuntime) {
-    none_other(&rt, other_content(rt.alloc()));
+    assert_no_row_differs(&rt, differing_content(rt.alloc()));
 }
 
 /// A record that checks a name, and behind it what an older and longer batch left in its slot.
@@ -592,7 +592,7 @@ static LARGE: &[(&'static [(u16, u8)], usize, usize)] = &[
     ),
 ];
 
-fn other_large(alloc: Global) -> Option<usize> {
+fn differing_large(alloc: Global) -> Option<usize> {
     for (row, (records, count, bytes)) in LARGE.iter().enumerate() {
         match taken(alloc, records) {
             Ok((had_count, had_bytes)) if had_count == *count && had_bytes == *bytes => {}
@@ -604,7 +604,7 @@ fn other_large(alloc: Global) -> Option<usize> {
 
 #[test]
 fn a_batch_takes_what_fits(rt: HostRuntime) {
-    none_other(&rt, other_large(rt.alloc()));
+    assert_no_row_differs(&rt, differing_large(rt.alloc()));
 }
 
 /// The batch of seven records of the first version, six with 64 writes of 0 and one with so many.

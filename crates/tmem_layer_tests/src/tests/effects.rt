@@ -18,7 +18,7 @@ impl Made {
         }
     }
 
-    fn is_put(&mut self, var: u16, value: i64) -> bool {
+    fn has_put(&mut self, var: u16, value: i64) -> bool {
         if self.effect.writes.as_slice().len() >= 64 {
             return false;
         }
@@ -54,7 +54,7 @@ pub(super) fn effect_of(writes: &[(u16, i64)], checks: &[&str], retires: &[&str]
     let mut made = Made::new();
     let mut is_so = true;
     for (var, value) in writes {
-        is_so = made.is_put(*var, *value) && is_so;
+        is_so = made.has_put(*var, *value) && is_so;
     }
     for letters in checks {
         is_so = made.is_checked(Name::new(letters)) && is_so;

@@ -3,7 +3,7 @@ ghost use Rattle.std.specs.Prelude.{◌≡◌, true};
 ghost use Rattle.tmem_tree.specs.declared.step.StepAnswer.TheVariants.{Retry};
 
 use super::effects::numbered;
-use super::rows::none_other;
+use super::rows::assert_no_row_differs;
 use std::alloc::Global;
 use std::test::Fail;
 use tmem_fault::{Cause, Fault, Name};
@@ -51,7 +51,7 @@ fn refusal_over(alloc: Global, footprint: &[u16]) -> Result<Option<Fault>, Fault
     Ok(Invariant::new(Name::new("always")?, vars, always).err())
 }
 
-fn other_footprint(alloc: Global) -> Option<usize> {
+fn differing_footprint(alloc: Global) -> Option<usize> {
     for (row, (footprint, is_refused)) in FOOTPRINTS.iter().enumerate() {
         let is_so = match refusal_over(alloc, footprint) {
             Ok(None) => !*is_refused,
@@ -67,7 +67,7 @@ fn other_footprint(alloc: Global) -> Option<usize> {
 
 #[test]
 fn footprints_out_of_limits_are_refused(rt: HostRuntime) {
-    none_other(&rt, other_footprint(rt.alloc()));
+    assert_no_row_differs(&rt, differing_footprint(rt.alloc()));
 }
 
 /// What a table may be refused by.
@@ -106,7 +106,7 @@ fn refusal_of(alloc: Global, entries: u8, names: u8, var: u16) -> Result<Option<
     Ok(Table::of(alloc, made, 4).err())
 }
 
-fn other_table(alloc: Global) -> Option<usize> {
+fn differing_table(alloc: Global) -> Option<usize> {
     for (row, (entries, names, var, refusal)) in TABLES.iter().enumerate() {
         let is_so = match refusal_of(alloc, *entries, *names, *var) {
             Ok(None) => matches!(refusal, Refusal::No),
@@ -123,5 +123,5 @@ fn other_table(alloc: Global) -> Option<usize> {
 
 #[test]
 fn tables_out_of_limits_are_refused(rt: HostRuntime) {
-    none_other(&rt, other_table(rt.alloc()));
+    assert_no_row_differs(&rt, differing_table(rt.alloc()));
 }

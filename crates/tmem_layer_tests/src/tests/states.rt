@@ -1,6 +1,6 @@
 //! A state whose registered names are as many as there may be.
 use super::effects::{Made, numbered};
-use super::rows::none_other;
+use super::rows::assert_no_row_differs;
 use std::alloc::Global;
 use tmem_effect::Effect;
 use tmem_fault::Fault;
@@ -107,7 +107,7 @@ static EFFECTS: &[(
     ),
 ];
 
-fn other_effect(alloc: Global) -> Option<usize> {
+fn differing_effect(alloc: Global) -> Option<usize> {
     for (row, (checks, retires, wanted)) in EFFECTS.iter().enumerate() {
         match after(alloc, checks, retires) {
             Ok(had) if had == *wanted => {}
@@ -119,5 +119,5 @@ fn other_effect(alloc: Global) -> Option<usize> {
 
 #[test]
 fn a_full_state_takes_a_name_in_place_of_another(rt: HostRuntime) {
-    none_other(&rt, other_effect(rt.alloc()));
+    assert_no_row_differs(&rt, differing_effect(rt.alloc()));
 }

@@ -1,5 +1,5 @@
 //! Names, and the lines of refusals.
-use super::rows::none_other;
+use super::rows::assert_no_row_differs;
 use std::alloc::Global;
 use tmem_fault::{Cause, Fault, Name};
 
@@ -29,7 +29,7 @@ fn makes_name(text: &str) -> Option<bool> {
     }
 }
 
-fn other_text() -> Option<usize> {
+fn differing_text() -> Option<usize> {
     for (row, (text, is_name)) in TEXTS.iter().enumerate() {
         if makes_name(text) != Some(*is_name) {
             return Some(row);
@@ -48,7 +48,7 @@ fn is_before(one: &str, other: &str) -> bool {
 
 #[test]
 fn a_name_is_one_to_sixteen_letters(rt: HostRuntime) {
-    none_other(&rt, other_text());
+    assert_no_row_differs(&rt, differing_text());
     assert!(rt; is_before("ab", "b") && is_before("a", "aa"));
 }
 
@@ -86,7 +86,7 @@ fn is_printed(alloc: Global, fault: Fault, line: &str) -> bool {
 }
 
 /// The first of 18 rows whose line is another.
-fn other_line(alloc: Global) -> Option<usize> {
+fn differing_line(alloc: Global) -> Option<usize> {
     for row in 0..18 {
         match refusal_at(row) {
             Some((fault, line)) if is_printed(alloc, fault, line) => {}
@@ -109,6 +109,6 @@ fn are_named(alloc: Global) -> bool {
 
 #[test]
 fn each_fault_has_its_line(rt: HostRuntime) {
-    none_other(&rt, other_line(rt.alloc()));
-    assert!(rt; are_named(rt.alloc()));
+    assert_no_row_differs(&rt, differing_line(rt.alloc()));
+    assert!(rt; refusal_at(18).is_none() && are_named(rt.alloc()));
 }
