@@ -1,15 +1,14 @@
 //! Transactions that are built over the steps of scripts, on a world.
-use super::worlds::{commit, opened};
+use super::worlds::{Played, commit, opened};
 use std::alloc::{AllocError, Global};
 use std::process::Abort;
 use std::test::Fail;
 use tmem_builtins::{add_to, all_of, first_of, first_of_several, put, read, stored_steps, take};
-use tmem_disk::SimDisk;
 use tmem_fault::Fault;
 use tmem_invariants::Invariants;
 use tmem_tables::Table;
 use tmem_tree::{StoredSteps, Tx};
-use tmem_world::{Reply, Settled, World};
+use tmem_world::{Reply, Settled};
 
 /// What is built.
 #[derive(Clone, Copy)]
@@ -117,11 +116,7 @@ fn end_of(reply: &Reply) -> Ends {
     }
 }
 
-fn plays<T: Invariants + Drop, S: StoredSteps + Drop>(
-    rt: &impl Abort,
-    alloc: Global,
-    world: &mut World<SimDisk, T, S>,
-) -> Result<(), Fault> {
+fn plays<W: Played>(rt: &impl Abort, alloc: Global, world: &mut W) -> Result<(), Fault> {
     let mut row = 0u32;
     for (built, want) in ROWS {
         let had = end_of(&commit(world, built.tx(alloc)?));
