@@ -10,6 +10,7 @@ mod limits;
 mod moves;
 mod names;
 mod no_closures;
+mod nodes;
 mod paces;
 mod passes;
 mod playing;

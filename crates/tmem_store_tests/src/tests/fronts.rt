@@ -4,6 +4,7 @@ ghost use Rattle.tmem_builtins.specs.Invariants.{is_not_negative};
 ghost use Rattle.tmem_front.specs.Held.{front_found, spine_of, front_steps, front_table};
 ghost use Rattle.tmem_store_tests.specs.Programs.{checked_program};
 
+use super::nodes::{Node, seq};
 use super::store::{Call, Caller, Calls};
 use super::worlds::formatted;
 use std::alloc::{AllocError, Global};
@@ -48,7 +49,7 @@ const REFUSED_ROOM: &[Call] = &[
     Call::AtomicallyWithin,
 ];
 
-#[derive(Clone, Copy, Debug)]
+#[derive(Clone, Copy)]
 enum Task {
     /// Writes a 1 to variable 0.
     WriteOne,
@@ -118,7 +119,7 @@ impl Task {
             Task::WriteOne => write_number(alloc, 1),
             Task::EachForm(aborts) => each_form(alloc, aborts),
             Task::Largest(number) => deepened(alloc, largest(alloc, number)?),
-            Task::Reads => reads(alloc),
+            Task::Reads => seq(alloc, &[Node::ReadEach(0, 500, 0)]),
             Task::ReadsAndChecks => reads_and_checks(alloc),
         }
     }
@@ -197,37 +198,28 @@ fn deepened(alloc: Global, mut tx: Tx) -> Result<Tx, AllocError> {
     Ok(tx)
 }
 
-fn reads(alloc: Global) -> Result<Tx, AllocError> {
-    let mut all = Vec::new(alloc);
-    for var in 0..500 {
-        all.push(Tx::Read { var, reg: 0 })?;
-    }
-    Ok(Tx::Seq(all))
-}
-
 fn reads_and_checks(alloc: Global) -> Result<Tx, AllocError> {
-    let mut all = Vec::new(alloc);
-    for var in 1..511 {
-        all.push(Tx::Read { var, reg: 0 })?;
-    }
-    all.push(Tx::Check { name: names()[0] })?;
-    Ok(Tx::Seq(all))
+    seq(
+        alloc,
+        &[Node::ReadEach(1, 511, 0), Node::CheckName(names()[0])],
+    )
 }
 
 /// Makes variable 0 this number.
 fn write_number(alloc: Global, number: i64) -> Result<Tx, AllocError> {
-    Ok(Tx::Seq(vec![in alloc; Tx::Put { reg: 0, number }, Tx::Write { var: 0, reg: 0 }]?))
+    seq(alloc, &[Node::PutNumber(0, number), Node::WriteValue(0, 0)])
 }
 
 /// The same, checks that it is not negative, and makes it 2.
 fn check_negative(alloc: Global, number: i64) -> Result<Tx, AllocError> {
-    Ok(Tx::Seq(vec![in alloc;
-        Tx::Put { reg: 0, number },
-        Tx::Write { var: 0, reg: 0 },
-        Tx::Check { name: names()[0] },
-        Tx::Put { reg: 0, number: 2 },
-        Tx::Write { var: 0, reg: 0 },
-    ]?))
+    let nodes = [
+        Node::PutNumber(0, number),
+        Node::WriteValue(0, 0),
+        Node::CheckName(names()[0]),
+        Node::PutNumber(0, 2),
+        Node::WriteValue(0, 0),
+    ];
+    seq(alloc, &nodes)
 }
 
 /// How it ended, where so many were committed before.
@@ -281,7 +273,8 @@ fn why_of<C: Calls, R: Wait>(
     caller: &mut C,
     asked: Asked,
 ) -> Result<Option<i64>, Fault> {
-    let (tx, name) = (asked.tx(alloc)?, names()[0]);
+    let tx = asked.tx(alloc)?;
+    let name = names()[0];
     match asked {
         Asked::ByAttempt(_) => told_alone(caller.why_attempt(rt, tx, &name)),
         _ => told_alone(caller.why(rt, tx, &name)),
@@ -309,8 +302,8 @@ fn ask_why<C: Calls, R: Abort + Clock + Wait>(
     Ok(())
 }
 
-fn must_end(rt: &impl Abort, (call, task): (Call, Task), had: Ends, want: Ends) {
-    assert!(rt; had == want, "{task:?} by {call:?} ends so: {had:?}");
+fn must_end(rt: &impl Abort, number: usize, call: Call, had: Ends, want: Ends) {
+    assert!(rt; had == want, "row {number} ends by {call:?} so: {had:?}");
 }
 
 /// Plays a row, and answers how many are committed then.
@@ -318,7 +311,7 @@ fn play_row<C: Calls, R: Abort + Clock + Wait>(
     rt: &R,
     alloc: Global,
     caller: &mut C,
-    row: &Row,
+    (number, row): (usize, &Row),
     mut committed: u64,
 ) -> Result<u64, Fault> {
     let (calls, task, times, want) = *row;
@@ -326,7 +319,7 @@ fn play_row<C: Calls, R: Abort + Clock + Wait>(
         for _ in 0..times {
             let settled = caller.settled(rt, task.tx(alloc)?, *call, Duration::from_secs(60));
             let had = end_of(settled, committed);
-            must_end(rt, (*call, task), had, want);
+            must_end(rt, number, *call, had, want);
             committed = committed.wrapping_add(u64::from(had == Ends::Commits));
         }
     }
@@ -341,7 +334,7 @@ fn play<C: Calls, R: Abort + Clock + Wait>(
 ) -> Result<(), Fault> {
     caller.take_pass(rt)?;
     let mut committed = 0u64;
-    for row in ROWS {
+    for row in ROWS.iter().enumerate() {
         committed = play_row(rt, alloc, caller, row, committed)?;
     }
     assert!(rt; committed == 256);

@@ -68,7 +68,7 @@ pub(super) enum Line<'a> {
 }
 
 /// A part of a scene.
-#[derive(Clone, Copy, Debug, PartialEq)]
+#[derive(Clone, Copy)]
 pub(super) enum Part {
     Before,
     Thread(usize),
@@ -163,12 +163,8 @@ pub(super) fn device_of(lines: &[Line]) -> Device {
 pub(super) enum Wrong {
     /// No store was made, or no pass given out.
     NotBegun(Fault),
-    /// A part was answered like this at the line of this number, counted from the scene's own.
-    Answered {
-        part: Part,
-        line: usize,
-        answer: Answer,
-    },
+    /// A thread was answered like this at the line of this number, counted from the scene's own.
+    Answered { line: usize, answer: Answer },
     /// The others did not begin in time, or did not end.
     Late,
     /// The device was called while it was taken out.
@@ -246,7 +242,7 @@ fn play_alone<C: Calls, R: Clock + Wait>(
     if !has_part(stage.lines, part) {
         return None;
     }
-    if part != Part::Crowd {
+    if !matches!(part, Part::Crowd) {
         let taken = caller.take_pass(stage.rt);
         let is_in_time = stage
             .signals
@@ -290,7 +286,6 @@ fn other_at<C: Calls, R: Clock + Wait>(
         return None;
     }
     Some(Wrong::Answered {
-        part,
         line: index,
         answer: had,
     })
