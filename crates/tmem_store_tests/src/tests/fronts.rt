@@ -276,8 +276,8 @@ fn why_of<C: Calls, R: Wait>(
     let tx = asked.tx(alloc)?;
     let name = names()[0];
     match asked {
-        Asked::ByAttempt(_) => told_alone(caller.why_attempt(rt, tx, &name)),
-        _ => told_alone(caller.why(rt, tx, &name)),
+        Asked::ByAttempt(_) => told_alone(caller.why_attempt_refused(rt, tx, &name)),
+        _ => told_alone(caller.why_refused(rt, tx, &name)),
     }
 }
 
@@ -317,7 +317,7 @@ fn play_row<C: Calls, R: Abort + Clock + Wait>(
     let (calls, task, times, want) = *row;
     for call in calls {
         for _ in 0..times {
-            let settled = caller.settled(rt, task.tx(alloc)?, *call, Duration::from_secs(60));
+            let settled = caller.settle_by(rt, task.tx(alloc)?, *call, Duration::from_secs(60));
             let had = end_of(settled, committed);
             must_end(rt, number, *call, had, want);
             committed = committed.wrapping_add(u64::from(had == Ends::Commits));

@@ -214,14 +214,18 @@ impl Task {
     /// What a plan is made of.
     pub(super) fn tx(&self, alloc: Global) -> Result<Tx, AllocError> {
         match *self {
-            Task::Write(var, number) => seq(alloc, &write(var, number)),
+            Task::Write(var, number) => seq(alloc, &write_nodes(var, number)),
             Task::Copy => seq(alloc, &[Node::ReadValue(0, 0), Node::WriteValue(1, 0)]),
             Task::WriteBoth(var, other, number) => {
-                both(alloc, &write(var, number), &write(other, number))
+                both(
+                    alloc,
+                    &write_nodes(var, number),
+                    &write_nodes(other, number),
+                )
             }
             Task::WaitForEither(var, other) => wait_for_either(alloc, var, other),
             Task::Never => Ok(Tx::Retry),
-            Task::Choose => choose(alloc),
+            Task::Choose => nested_choices(alloc),
             Task::Abort(code) => Ok(Tx::Abort { code }),
             Task::WriteEach(number) => {
                 seq(alloc, &[Node::PutNumber(0, number), Node::WriteEachOf(64)])
@@ -230,16 +234,22 @@ impl Task {
             Task::ReadAndRegister => read_and_register(alloc),
             Task::Retire => Ok(Tx::Retire { name: always() }),
             Task::WriteAndRetire(var, number) => write_and_retire(alloc, var, number),
-            Task::AddOne => long(alloc, seq(alloc, &add_to(0))),
-            Task::NeedOne => long(alloc, seq(alloc, &need(2, 1))),
+            Task::AddOne => long(alloc, seq(alloc, &add_nodes(0))),
+            Task::NeedOne => long(alloc, seq(alloc, &need_nodes(2, 1))),
             Task::NeedEither(var, other) => {
-                long(alloc, either(alloc, &need(var, 1), &need(other, 1)))
+                long(
+                    alloc,
+                    either(alloc, &need_nodes(var, 1), &need_nodes(other, 1)),
+                )
             }
             Task::NeedLast(var) => long(alloc, need_last(alloc, var)),
             Task::AddBehind(var, least, other) => {
-                long(alloc, both(alloc, &need(var, least), &add_to(other)))
+                long(
+                    alloc,
+                    both(alloc, &need_nodes(var, least), &add_nodes(other)),
+                )
             }
-            Task::AddOnceThereIsOne => long(alloc, both(alloc, &add_to(0), &need(2, 1))),
+            Task::AddOnceThereIsOne => long(alloc, both(alloc, &add_nodes(0), &need_nodes(2, 1))),
             Task::AddAndRegister => long(alloc, add_and_register(alloc)),
         }
     }
@@ -267,11 +277,11 @@ fn or_else(alloc: Global, first: Tx, second: Tx) -> Result<Tx, AllocError> {
     Ok(Tx::OrElse(Box::new(alloc, first)?, Box::new(alloc, second)?))
 }
 
-fn write(var: u16, number: i64) -> [Node; 2] {
+fn write_nodes(var: u16, number: i64) -> [Node; 2] {
     [Node::PutNumber(0, number), Node::WriteValue(var, 0)]
 }
 
-fn add_to(var: u16) -> [Node; 4] {
+fn add_nodes(var: u16) -> [Node; 4] {
     [
         Node::ReadValue(var, 0),
         Node::PutNumber(1, 1),
@@ -280,7 +290,7 @@ fn add_to(var: u16) -> [Node; 4] {
     ]
 }
 
-fn need(var: u16, least: i64) -> [Node; 3] {
+fn need_nodes(var: u16, least: i64) -> [Node; 3] {
     [
         Node::ReadValue(var, 0),
         Node::PutNumber(1, least),
@@ -299,28 +309,32 @@ fn read_and_register(alloc: Global) -> Result<Tx, AllocError> {
 }
 
 fn write_and_retire(alloc: Global, var: u16, number: i64) -> Result<Tx, AllocError> {
-    let written = seq(alloc, &write(var, number));
+    let written = seq(alloc, &write_nodes(var, number));
     behind(alloc, written, &[Node::RetireName(always())])
 }
 
 fn add_and_register(alloc: Global) -> Result<Tx, AllocError> {
-    behind(alloc, seq(alloc, &add_to(0)), &[Node::CheckName(always())])
+    behind(
+        alloc,
+        seq(alloc, &add_nodes(0)),
+        &[Node::CheckName(always())],
+    )
 }
 
 fn need_last(alloc: Global, last: u16) -> Result<Tx, AllocError> {
     before(
         alloc,
         &[Node::ReadEach(0, last, 3)],
-        seq(alloc, &need(last, 1)),
+        seq(alloc, &need_nodes(last, 1)),
     )
 }
 
-fn choose(alloc: Global) -> Result<Tx, AllocError> {
+fn nested_choices(alloc: Global) -> Result<Tx, AllocError> {
     let mut tx = Tx::Retry;
     for _ in 0..30 {
         tx = or_else(alloc, tx, Tx::Retry)?;
     }
-    or_else(alloc, tx, seq(alloc, &write(0, 1))?)
+    or_else(alloc, tx, seq(alloc, &write_nodes(0, 1))?)
 }
 
 fn wait_for_either(alloc: Global, var: u16, other: u16) -> Result<Tx, AllocError> {

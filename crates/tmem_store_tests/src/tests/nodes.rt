@@ -69,7 +69,7 @@ fn push(alloc: Global, txs: &mut Vec<Tx>, node: Node) -> Result<(), AllocError> 
         Node::WriteValue(var, reg) => Tx::Write { var, reg },
         Node::CheckName(name) => Tx::Check { name },
         Node::RetireName(name) => Tx::Retire { name },
-        Node::CallStep(index, args, out) => step(index, Vec::from_array(alloc, args)?, out),
+        Node::CallStep(index, args, out) => step_of(index, Vec::from_array(alloc, args)?, out),
         Node::ReadEach(first, end, reg) => return read_each(txs, first, end, reg),
         Node::WriteEachOf(vars) => return write_each(txs, vars),
         Node::DoNothing(times) => return do_nothing(txs, times),
@@ -78,7 +78,7 @@ fn push(alloc: Global, txs: &mut Vec<Tx>, node: Node) -> Result<(), AllocError> 
     Ok(())
 }
 
-fn step(index: u16, args: Vec<u8>, out: u8) -> Tx {
+fn step_of(index: u16, args: Vec<u8>, out: u8) -> Tx {
     Tx::Step { index, args, out }
 }
 

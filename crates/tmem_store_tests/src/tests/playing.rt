@@ -22,9 +22,9 @@ pub(super) fn answer<C: Calls, R: Clock + Wait>(
         Move::Attempt(task) => attempt(stage, caller, task),
         Move::Settle => caller.settle_kept(stage.rt),
         Move::NewPass => Answer::done(caller.take_pass(stage.rt)),
-        Move::Acquire => Answer::done(caller.acquire(stage.rt)),
-        Move::AcquireWithin(millis) => caller.acquire_within(&stage.clock(), limit_of(millis)),
-        Move::ReleasePass => caller.release(stage.rt),
+        Move::Acquire => Answer::done(caller.acquire_pass(stage.rt)),
+        Move::AcquireWithin(millis) => caller.acquire_pass_within(&stage.clock(), limit_of(millis)),
+        Move::ReleasePass => caller.release_pass(stage.rt),
         Move::OtherPass => Answer::done(caller.other_pass(stage.rt)),
         other => answer_by(stage, caller, other),
     }
@@ -49,11 +49,11 @@ fn answer_by<C: Calls, R: Clock + Wait>(stage: &Stage<R>, caller: &mut C, step: 
 // Plays a move that commits so often.
 fn answer_often<C: Calls, R: Clock + Wait>(stage: &Stage<R>, caller: &mut C, step: Move) -> Answer {
     match step {
-        Move::Fill(times) => fill(stage, caller, Task::Write(0, 1), times),
-        Move::FillBy(task, times) => fill(stage, caller, task, times),
-        Move::Add(times) => add(stage, caller, times),
-        Move::AddWithRoom(times) => add_by(stage, caller, Call::AtomicallyWithRoom, times),
-        Move::AddDurably(times) => add_by(stage, caller, Call::CommitDurable, times),
+        Move::Fill(times) => commit_in_order(stage, caller, Task::Write(0, 1), times),
+        Move::FillBy(task, times) => commit_in_order(stage, caller, task, times),
+        Move::Add(times) => add_often(stage, caller, times),
+        Move::AddWithRoom(times) => add_by_call(stage, caller, Call::AtomicallyWithRoom, times),
+        Move::AddDurably(times) => add_by_call(stage, caller, Call::CommitDurable, times),
         Move::CommitAndFlush(times) => commit_and_flush(stage, caller, times),
         other => answer_more(stage, caller, other),
     }
@@ -71,7 +71,7 @@ fn answer_more<C: Calls, R: Clock + Wait>(stage: &Stage<R>, caller: &mut C, step
         Move::ValuesAre(vars, want) => values_are(stage, caller, &vars, &want),
         Move::CountValues(most) => Answer::number(count_values(stage, caller, most)),
         Move::NewPasses(times) => new_passes(stage, caller, times),
-        other => caller.call(stage, other),
+        other => caller.call_front(stage, other),
     }
 }
 
@@ -84,7 +84,7 @@ fn settle<C: Calls, R: Clock + Wait>(
     millis: u64,
 ) -> Answer {
     match task.tx(stage.alloc) {
-        Ok(tx) => Answer::to(caller.settled(&stage.clock(), tx, call, limit_of(millis))),
+        Ok(tx) => Answer::to(caller.settle_by(&stage.clock(), tx, call, limit_of(millis))),
         Err(_) => Answer::refused(Fault::Memory),
     }
 }
@@ -92,13 +92,13 @@ fn settle<C: Calls, R: Clock + Wait>(
 // Keeps an attempt at a task.
 fn attempt<C: Calls, R: Wait>(stage: &Stage<R>, caller: &mut C, task: Task) -> Answer {
     match task.tx(stage.alloc) {
-        Ok(tx) => Answer::done(caller.keep(stage.rt, tx)),
+        Ok(tx) => Answer::done(caller.keep_attempt(stage.rt, tx)),
         Err(_) => Answer::refused(Fault::Memory),
     }
 }
 
 // How often a commit has the next number, from 0.
-fn fill<C: Calls, R: Clock + Wait>(
+fn commit_in_order<C: Calls, R: Clock + Wait>(
     stage: &Stage<R>,
     caller: &mut C,
     task: Task,
@@ -124,7 +124,7 @@ fn commit_and_flush<C: Calls, R: Clock + Wait>(
         if !matches!(committed, Answer::Committed(_)) {
             return committed;
         }
-        let flushed = caller.call(stage, Move::FlushWithRoom);
+        let flushed = caller.call_front(stage, Move::FlushWithRoom);
         if !matches!(flushed, Answer::Number(_)) {
             return flushed;
         }
@@ -133,7 +133,7 @@ fn commit_and_flush<C: Calls, R: Clock + Wait>(
 }
 
 // How often an addition commits, which is made again after each conflict.
-fn add<C: Calls, R: Clock + Wait>(stage: &Stage<R>, caller: &mut C, times: u64) -> Answer {
+fn add_often<C: Calls, R: Clock + Wait>(stage: &Stage<R>, caller: &mut C, times: u64) -> Answer {
     let mut committed = 0u64;
     for _ in 0..MOST_ATTEMPTS {
         if committed == times {
@@ -149,7 +149,7 @@ fn add<C: Calls, R: Clock + Wait>(stage: &Stage<R>, caller: &mut C, times: u64) 
 }
 
 // How often an addition commits by a call.
-fn add_by<C: Calls, R: Clock + Wait>(
+fn add_by_call<C: Calls, R: Clock + Wait>(
     stage: &Stage<R>,
     caller: &mut C,
     call: Call,

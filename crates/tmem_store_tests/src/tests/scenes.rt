@@ -215,19 +215,19 @@ fn threads_of(lines: &[Line]) -> usize {
 /// What is played on a store. The functions that start threads know no more of it.
 trait Plays {
     /// Plays a part with hands of its own, if it does anything, and answers what went wrong first.
-    fn play<R: Clock + Wait>(&self, stage: &Stage<R>, part: Part) -> Option<Wrong>;
+    fn play_part<R: Clock + Wait>(&self, stage: &Stage<R>, part: Part) -> Option<Wrong>;
 
     /// Shuts the store.
-    fn end<R: Wait>(&self, stage: &Stage<R>);
+    fn shut_down<R: Wait>(&self, stage: &Stage<R>);
 }
 
 impl<D: Disk + Drop, N: StoreNaming, T: Invariants + Drop, S: StoredSteps + Drop> Plays
     for Front<D, N, T, S> {
-    fn play<R: Clock + Wait>(&self, stage: &Stage<R>, part: Part) -> Option<Wrong> {
+    fn play_part<R: Clock + Wait>(&self, stage: &Stage<R>, part: Part) -> Option<Wrong> {
         play_alone(stage, &mut Caller::new(self), part)
     }
 
-    fn end<R: Wait>(&self, stage: &Stage<R>) {
+    fn shut_down<R: Wait>(&self, stage: &Stage<R>) {
         self.shut(stage.rt);
     }
 }
@@ -302,7 +302,7 @@ fn play_thread<F: Plays, R: Clock + Wait>(
     } else {
         Part::Crowd
     };
-    let wrong = store.play(stage, part);
+    let wrong = store.play_part(stage, part);
     stage.signals.count_end();
     if thread == LAST && !ends_others(stage, store) {
         return wrong.or(Some(Wrong::Late));
@@ -317,7 +317,7 @@ fn ends_others<F: Plays, R: Clock + Wait>(stage: &Stage<R>, store: &F) -> bool {
         return true;
     }
     for _ in 0..MOST_SHUTS {
-        store.end(stage);
+        store.shut_down(stage);
         thread::sleep(stage.rt, Duration::from_millis(10));
     }
     false

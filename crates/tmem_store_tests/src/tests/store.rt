@@ -45,19 +45,19 @@ pub(super) trait Calls {
     fn gives_pass<R: Wait>(&self, rt: &R) -> bool;
 
     /// Takes a pass of the pool in place of the one in hand.
-    fn acquire<R: Wait>(&mut self, rt: &R) -> Result<(), Fault>;
+    fn acquire_pass<R: Wait>(&mut self, rt: &R) -> Result<(), Fault>;
 
     /// The same for no longer than a time.
-    fn acquire_within<R: Clock + Wait>(&mut self, rt: &R, limit: Duration) -> Answer;
+    fn acquire_pass_within<R: Clock + Wait>(&mut self, rt: &R, limit: Duration) -> Answer;
 
     /// Hands the one in hand to the pool.
-    fn release<R: Wait>(&mut self, rt: &R) -> Answer;
+    fn release_pass<R: Wait>(&mut self, rt: &R) -> Answer;
 
     /// Takes the other pass in hand, a new one at first.
     fn other_pass<R: Wait>(&mut self, rt: &R) -> Result<(), Fault>;
 
     /// Settles a transaction by a call, for no longer than a time where that has a limit.
-    fn settled<R: Clock + Wait>(
+    fn settle_by<R: Clock + Wait>(
         &mut self,
         rt: &R,
         tx: Tx,
@@ -66,7 +66,7 @@ pub(super) trait Calls {
     ) -> Result<Settled, Fault>;
 
     /// Keeps an attempt at a transaction.
-    fn keep<R: Wait>(&mut self, rt: &R, tx: Tx) -> Result<(), Fault>;
+    fn keep_attempt<R: Wait>(&mut self, rt: &R, tx: Tx) -> Result<(), Fault>;
 
     /// Settles the attempt that is kept.
     fn settle_kept<R: Wait>(&mut self, rt: &R) -> Answer;
@@ -75,7 +75,7 @@ pub(super) trait Calls {
     fn values<R: Wait>(&mut self, rt: &R, vars: &[u16]) -> Result<Vec<i64>, Fault>;
 
     /// Why an invariant refuses a transaction.
-    fn why<R: Wait>(
+    fn why_refused<R: Wait>(
         &mut self,
         rt: &R,
         tx: Tx,
@@ -83,7 +83,7 @@ pub(super) trait Calls {
     ) -> Result<Option<Vec<(u16, i64)>>, Fault>;
 
     /// Why it refuses an attempt at one.
-    fn why_attempt<R: Wait>(
+    fn why_attempt_refused<R: Wait>(
         &mut self,
         rt: &R,
         tx: Tx,
@@ -91,7 +91,7 @@ pub(super) trait Calls {
     ) -> Result<Option<Vec<(u16, i64)>>, Fault>;
 
     /// Plays a move that is one call of the front, by the pass in hand or by none.
-    fn call<R: Clock + Wait>(&mut self, stage: &Stage<R>, step: Move) -> Answer;
+    fn call_front<R: Clock + Wait>(&mut self, stage: &Stage<R>, step: Move) -> Answer;
 }
 
 /// One caller of a front.
@@ -192,12 +192,12 @@ impl<D: Disk + Drop, N: StoreNaming, T: Invariants + Drop, S: StoredSteps + Drop
         self.front.pass(rt).is_ok()
     }
 
-    fn acquire<R: Wait>(&mut self, rt: &R) -> Result<(), Fault> {
+    fn acquire_pass<R: Wait>(&mut self, rt: &R) -> Result<(), Fault> {
         self.hands.pass = Some(self.front.acquire_pass(rt)?);
         Ok(())
     }
 
-    fn acquire_within<R: Clock + Wait>(&mut self, rt: &R, limit: Duration) -> Answer {
+    fn acquire_pass_within<R: Clock + Wait>(&mut self, rt: &R, limit: Duration) -> Answer {
         match self.front.acquire_pass_within(rt, limit) {
             Ok(None) => Answer::Late,
             Ok(pass) => {
@@ -208,7 +208,7 @@ impl<D: Disk + Drop, N: StoreNaming, T: Invariants + Drop, S: StoredSteps + Drop
         }
     }
 
-    fn release<R: Wait>(&mut self, rt: &R) -> Answer {
+    fn release_pass<R: Wait>(&mut self, rt: &R) -> Answer {
         match self.hands.pass.take() {
             Some(pass) => Answer::done(self.front.release_pass(rt, pass)),
             None => Answer::Nothing,
@@ -223,7 +223,7 @@ impl<D: Disk + Drop, N: StoreNaming, T: Invariants + Drop, S: StoredSteps + Drop
         Ok(())
     }
 
-    fn settled<R: Clock + Wait>(
+    fn settle_by<R: Clock + Wait>(
         &mut self,
         rt: &R,
         tx: Tx,
@@ -236,7 +236,7 @@ impl<D: Disk + Drop, N: StoreNaming, T: Invariants + Drop, S: StoredSteps + Drop
         }
     }
 
-    fn keep<R: Wait>(&mut self, rt: &R, tx: Tx) -> Result<(), Fault> {
+    fn keep_attempt<R: Wait>(&mut self, rt: &R, tx: Tx) -> Result<(), Fault> {
         let attempt = attempt_at(self.front, rt, tx)?;
         self.hands.kept = Some(Kept {
             attempt,
@@ -259,7 +259,7 @@ impl<D: Disk + Drop, N: StoreNaming, T: Invariants + Drop, S: StoredSteps + Drop
         }
     }
 
-    fn why<R: Wait>(
+    fn why_refused<R: Wait>(
         &mut self,
         rt: &R,
         tx: Tx,
@@ -271,7 +271,7 @@ impl<D: Disk + Drop, N: StoreNaming, T: Invariants + Drop, S: StoredSteps + Drop
         }
     }
 
-    fn why_attempt<R: Wait>(
+    fn why_attempt_refused<R: Wait>(
         &mut self,
         rt: &R,
         tx: Tx,
@@ -284,7 +284,7 @@ impl<D: Disk + Drop, N: StoreNaming, T: Invariants + Drop, S: StoredSteps + Drop
         }
     }
 
-    fn call<R: Clock + Wait>(&mut self, stage: &Stage<R>, step: Move) -> Answer {
+    fn call_front<R: Clock + Wait>(&mut self, stage: &Stage<R>, step: Move) -> Answer {
         match &mut self.hands.pass {
             Some(pass) => call_by(self.front, stage, pass, step),
             None => Answer::Nothing,

@@ -50,7 +50,7 @@ fn fill<W: Played>(rt: &impl Abort, alloc: Global, world: &mut W) -> Result<(), 
 /// Plays, as one list, a flush of the 64 records and what finds them again.
 fn flush_and_reopen<W: Played>(rt: &impl Abort, alloc: Global, world: &mut W) -> Result<(), Fault> {
     let events = vec![in alloc; Event::Flush, Event::Reopen, Event::Look]?;
-    let had = world.play(events)?;
+    let had = world.play_list(events)?;
     let want = [Reply::Durable(64), Reply::Opened(64), Reply::Looked(64)];
     assert!(rt; had.as_slice() == want.as_slice());
     assert!(rt; has_all(world)?);

@@ -59,7 +59,7 @@ pub(super) trait Played {
         requires { NamesAttempt event };
 
     /// Plays a list of them.
-    fn play(&mut self, events: Vec<Event>) -> Result<Vec<Reply>, Fault>
+    fn play_list(&mut self, events: Vec<Event>) -> Result<Vec<Reply>, Fault>
         requires { All NamesAttempt events.items };
 
     /// Whether a name is registered, where there is a session.
@@ -71,7 +71,7 @@ impl<T: Invariants + Drop, S: StoredSteps + Drop> Played for World<SimDisk, T, S
         self.step(event)
     }
 
-    fn play(&mut self, events: Vec<Event>) -> Result<Vec<Reply>, Fault> {
+    fn play_list(&mut self, events: Vec<Event>) -> Result<Vec<Reply>, Fault> {
         self.play(events)
     }
 
