@@ -4,8 +4,8 @@ ghost use Rattle.tmem_builtins.specs.Invariants.{is_not_negative};
 ghost use Rattle.tmem_front.specs.Held.{front_found, spine_of, front_steps, front_table};
 ghost use Rattle.tmem_store_tests.specs.Programs.{checked_program};
 
-use super::nodes::{Node, seq};
-use super::store::{Call, Caller, Calls};
+use super::nodes::{Node, or_else, push_all, seq, when};
+use super::store::{Asks, Call, Caller, Settles};
 use super::worlds::formatted;
 use std::alloc::{AllocError, Global};
 use std::marker::Brand;
@@ -143,32 +143,23 @@ impl Asked {
 }
 
 fn each_form(alloc: Global, aborts: i64) -> Result<Tx, AllocError> {
-    let args = vec![in alloc; 0, 0]?;
-    let retries = Box::new(alloc, Tx::Retry)?;
-    let writes = Box::new(alloc, Tx::Write { var: 0, reg: 0 })?;
-    let then = Box::new(alloc, Tx::Abort { code: 7 })?;
-    let other = Box::new(alloc, Tx::Skip)?;
-    Ok(Tx::Seq(vec![in alloc;
-        Tx::Put { reg: 0, number: 5 },
-        Tx::Put {
-            reg: 3,
-            number: aborts
-        },
-        Tx::Read { var: 1, reg: 1 },
-        Tx::OrElse(retries, writes),
-        Tx::Step {
-            index: 0,
-            args,
-            out: 2
-        },
-        Tx::Retire { name: names()[0] },
-        Tx::Check { name: names()[0] },
-        Tx::When {
-            reg: 3,
-            then,
-            other
-        },
-    ]?))
+    let name = names()[0];
+    let first = [
+        Node::PutNumber(0, 5),
+        Node::PutNumber(3, aborts),
+        Node::ReadValue(1, 1),
+    ];
+    let second = [
+        Node::CallStep(0, [0, 0], 2),
+        Node::RetireName(name),
+        Node::CheckName(name),
+    ];
+    let mut all = Vec::new(alloc);
+    push_all(alloc, &mut all, &first)?;
+    all.push(or_else(alloc, Tx::Retry, Tx::Write { var: 0, reg: 0 })?)?;
+    push_all(alloc, &mut all, &second)?;
+    all.push(when(alloc, 3, Tx::Abort { code: 7 }, Tx::Skip)?)?;
+    Ok(Tx::Seq(all))
 }
 
 /// One of 482 nodes that is 2 deep.
@@ -267,7 +258,7 @@ fn told_alone(told: Result<Option<Vec<(u16, i64)>>, Fault>) -> Result<Option<i64
 }
 
 /// The value of variable 0 by which the invariant refuses a plan, or an attempt at one, where it does.
-fn why_of<C: Calls, R: Wait>(
+fn why_of<C: Asks, R: Wait>(
     rt: &R,
     alloc: Global,
     caller: &mut C,
@@ -275,10 +266,8 @@ fn why_of<C: Calls, R: Wait>(
 ) -> Result<Option<i64>, Fault> {
     let tx = asked.tx(alloc)?;
     let name = names()[0];
-    match asked {
-        Asked::ByAttempt(_) => told_alone(caller.why_attempt_refused(rt, tx, &name)),
-        _ => told_alone(caller.why_refused(rt, tx, &name)),
-    }
+    let is_attempt = matches!(asked, Asked::ByAttempt(_));
+    told_alone(caller.why_refused(rt, tx, is_attempt, &name))
 }
 
 fn must_be(rt: &impl Abort, asked: Asked, had: Option<i64>, want: Option<i64>) {
@@ -290,7 +279,7 @@ fn must_be(rt: &impl Abort, asked: Asked, had: Option<i64>, want: Option<i64>) {
 }
 
 /// Asks why plans are refused, and attempts at some.
-fn ask_why<C: Calls, R: Abort + Clock + Wait>(
+fn ask_why<C: Asks, R: Abort + Clock + Wait>(
     rt: &R,
     alloc: Global,
     caller: &mut C,
@@ -307,7 +296,7 @@ fn must_end(rt: &impl Abort, number: usize, call: Call, had: Ends, want: Ends) {
 }
 
 /// Plays a row, and answers how many are committed then.
-fn play_row<C: Calls, R: Abort + Clock + Wait>(
+fn play_row<C: Asks, R: Abort + Clock + Wait>(
     rt: &R,
     alloc: Global,
     caller: &mut C,
@@ -327,7 +316,7 @@ fn play_row<C: Calls, R: Abort + Clock + Wait>(
 }
 
 /// Plays the rows, and asks.
-fn play<C: Calls, R: Abort + Clock + Wait>(
+fn play<C: Asks, R: Abort + Clock + Wait>(
     rt: &R,
     alloc: Global,
     caller: &mut C,

@@ -2,7 +2,7 @@
 ghost use Rattle.std.specs.Prelude.{◌≡◌};
 
 use super::no_closures::always;
-use super::nodes::{Node, before, behind, seq};
+use super::nodes::{Node, before, behind, or_else, seq, when};
 use std::alloc::{AllocError, Global};
 use tmem_core::Settled;
 use tmem_fault::Fault;
@@ -273,10 +273,6 @@ fn either(alloc: Global, first: &[Node], second: &[Node]) -> Result<Tx, AllocErr
     or_else(alloc, seq(alloc, first)?, seq(alloc, second)?)
 }
 
-fn or_else(alloc: Global, first: Tx, second: Tx) -> Result<Tx, AllocError> {
-    Ok(Tx::OrElse(Box::new(alloc, first)?, Box::new(alloc, second)?))
-}
-
 fn write_nodes(var: u16, number: i64) -> [Node; 2] {
     [Node::PutNumber(0, number), Node::WriteValue(var, 0)]
 }
@@ -342,12 +338,8 @@ fn wait_for_either(alloc: Global, var: u16, other: u16) -> Result<Tx, AllocError
 }
 
 fn wait_for(alloc: Global, var: u16) -> Result<Tx, AllocError> {
-    let when = Tx::When {
-        reg: 0,
-        then: Box::new(alloc, Tx::Skip)?,
-        other: Box::new(alloc, Tx::Retry)?,
-    };
-    before(alloc, &[Node::ReadValue(var, 0)], Ok(when))
+    let waits = when(alloc, 0, Tx::Skip, Tx::Retry);
+    before(alloc, &[Node::ReadValue(var, 0)], waits)
 }
 
 impl Answer {
@@ -387,6 +379,14 @@ impl Answer {
         match ended {
             Ok(()) => Answer::Done,
             Err(fault) => Answer::refused(fault),
+        }
+    }
+
+    /// The answer to a call that asks for a fault.
+    pub(super) fn fault(fault: Option<Fault>) -> Answer {
+        match fault {
+            Some(fault) => Answer::refused(fault),
+            None => Answer::Nothing,
         }
     }
 

@@ -55,7 +55,8 @@ pub(super) fn before(
     Ok(Tx::Seq(txs))
 }
 
-fn push_all(alloc: Global, txs: &mut Vec<Tx>, nodes: &[Node]) -> Result<(), AllocError> {
+/// Puts them behind others.
+pub(super) fn push_all(alloc: Global, txs: &mut Vec<Tx>, nodes: &[Node]) -> Result<(), AllocError> {
     for node in nodes {
         push(alloc, txs, *node)?;
     }
@@ -101,4 +102,16 @@ fn do_nothing(txs: &mut Vec<Tx>, times: u32) -> Result<(), AllocError> {
         txs.push(Tx::Skip)?;
     }
     Ok(())
+}
+
+/// The second where the first retries.
+pub(super) fn or_else(alloc: Global, first: Tx, second: Tx) -> Result<Tx, AllocError> {
+    Ok(Tx::OrElse(Box::new(alloc, first)?, Box::new(alloc, second)?))
+}
+
+/// The first where the register is not 0, and the second where it is.
+pub(super) fn when(alloc: Global, reg: u8, then: Tx, other: Tx) -> Result<Tx, AllocError> {
+    let then = Box::new(alloc, then)?;
+    let other = Box::new(alloc, other)?;
+    Ok(Tx::When { reg, then, other })
 }

@@ -1,7 +1,7 @@
 //! How each move is played by a caller of a front.
 use super::moves::{Answer, Move, Refusal, Task};
 use super::stage::Stage;
-use super::store::{Call, Calls, limit_of};
+use super::store::{Call, Calls, Settles, limit_of};
 use std::rt::Clock;
 use std::sync::Wait;
 use tmem_fault::Fault;
@@ -20,12 +20,12 @@ pub(super) fn answer<C: Calls, R: Clock + Wait>(
 ) -> Answer {
     match step {
         Move::Attempt(task) => attempt(stage, caller, task),
-        Move::Settle => caller.settle_kept(stage.rt),
         Move::NewPass => Answer::done(caller.take_pass(stage.rt)),
-        Move::Acquire => Answer::done(caller.acquire_pass(stage.rt)),
-        Move::AcquireWithin(millis) => caller.acquire_pass_within(&stage.clock(), limit_of(millis)),
-        Move::ReleasePass => caller.release_pass(stage.rt),
-        Move::OtherPass => Answer::done(caller.other_pass(stage.rt)),
+        Move::Settle
+        | Move::Acquire
+        | Move::AcquireWithin(_)
+        | Move::ReleasePass
+        | Move::OtherPass => caller.call_by_hand(stage, step),
         other => answer_by(stage, caller, other),
     }
 }
@@ -71,7 +71,7 @@ fn answer_more<C: Calls, R: Clock + Wait>(stage: &Stage<R>, caller: &mut C, step
         Move::ValuesAre(vars, want) => values_are(stage, caller, &vars, &want),
         Move::CountValues(most) => Answer::number(count_values(stage, caller, most)),
         Move::NewPasses(times) => new_passes(stage, caller, times),
-        other => caller.call_front(stage, other),
+        other => caller.call_by_pass(stage, other),
     }
 }
 
@@ -124,7 +124,7 @@ fn commit_and_flush<C: Calls, R: Clock + Wait>(
         if !matches!(committed, Answer::Committed(_)) {
             return committed;
         }
-        let flushed = caller.call_front(stage, Move::FlushWithRoom);
+        let flushed = caller.call_by_pass(stage, Move::FlushWithRoom);
         if !matches!(flushed, Answer::Number(_)) {
             return flushed;
         }

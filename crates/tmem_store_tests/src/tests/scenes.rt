@@ -9,7 +9,8 @@ use super::playing::answer;
 use super::signals::Signals;
 use super::stage::Stage;
 use super::stage_disk::StageDisk;
-use super::store::{Caller, Calls};
+use super::store::{Caller, Calls, Settles};
+use super::worlds::formatted;
 use std::alloc::Global;
 use std::marker::Brand;
 use std::process::Abort;
@@ -22,7 +23,6 @@ use tmem_disk::{Disk, SimDisk};
 use tmem_fault::Fault;
 use tmem_front::{Front, OpenedFront, StoreNaming};
 use tmem_invariants::Invariants;
-use tmem_journal::{Layout, format};
 use tmem_tree::StoredSteps;
 
 /// Where the generation of the first image stands.
@@ -367,13 +367,9 @@ pub(super) type Opened<'a, T, R> = OpenedFront<StageDisk<'a, SimDisk, R>, T, Add
 
 // A new device that fails as it is to.
 fn new_disk(alloc: Global, device: Device) -> Result<SimDisk, Fault> {
-    let mut disk = SimDisk::new(alloc, Layout::new(device.vars, device.slots)?.end())?;
-    format(&mut disk, device.vars, device.slots)?;
-    if device.has_last_image && disk.size() >= GENERATION + 8 {
-        let written = disk.write_at(GENERATION, &u64::MAX.to_le_bytes());
-        if written.is_err() {
-            return Err(Fault::Device);
-        }
+    let mut disk = formatted(alloc, device.vars, device.slots)?;
+    if device.has_last_image && !writes_last_image(&mut disk) {
+        return Err(Fault::Device);
     }
     match device.failing {
         Failing::Never => {}
@@ -381,6 +377,11 @@ fn new_disk(alloc: Global, device: Device) -> Result<SimDisk, Fault> {
         Failing::Sync(k) => disk.fail_sync(k),
     }
     Ok(disk)
+}
+
+// Makes the image one of the last generation, where it has a place for that.
+fn writes_last_image(disk: &mut SimDisk) -> bool {
+    disk.size() < GENERATION + 8 || disk.write_at(GENERATION, &u64::MAX.to_le_bytes()).is_ok()
 }
 
 /// Such a device.
@@ -435,7 +436,15 @@ pub(super) fn play_named<
     wrong
 }
 
-// A scene, of whose lines the first one names it, in a new store.
+// A scene in a new store.
+fn play_on_stage<R: Clock + Threads + Wait + Sync>(stage: &Stage<R>) -> Option<Wrong> {
+    match open(stage, device_of(stage.lines)) {
+        Ok(opened) => play_named::<Brand, _, _>(stage, opened),
+        Err(fault) => Some(Wrong::NotBegun(fault)),
+    }
+}
+
+// A scene, of whose lines the first one names it, on a stage of its own.
 fn play_scene<R: Clock + Threads + Wait + Sync>(
     rt: &R,
     alloc: Global,
@@ -450,10 +459,7 @@ fn play_scene<R: Clock + Threads + Wait + Sync>(
         skip: skip_of(lines),
         readings: readings_of(lines),
     };
-    match open(&stage, device_of(lines)) {
-        Ok(opened) => play_named::<Brand, _, _>(&stage, opened),
-        Err(fault) => Some(Wrong::NotBegun(fault)),
-    }
+    play_on_stage(&stage)
 }
 
 // The lines of the scene that begins there.

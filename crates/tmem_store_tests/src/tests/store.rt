@@ -16,7 +16,7 @@ use std::sync::Wait;
 use std::time::Duration;
 use tmem_disk::Disk;
 use tmem_fault::{Fault, Name};
-use tmem_front::{Front, Pace, Pass, StoreNaming};
+use tmem_front::{Front, LogCounts, Pace, Pass, StoreNaming};
 use tmem_invariants::Invariants;
 use tmem_tentative::Attempt;
 use tmem_tree::{Plan, StoredSteps, Tx};
@@ -33,28 +33,11 @@ pub(super) enum Call {
     CommitDurable,
 }
 
-/// What a caller of a front does. It says nothing of what the calls promise, so that what stands above them carries none of it.
-pub(super) trait Calls {
-    /// Whether it has a pass in hand.
-    fn has_pass(&self) -> bool;
-
+/// A caller of a front that settles transactions. It says nothing of what the calls promise, so that what stands above it carries none
+/// of it; nor do the other two traits.
+pub(super) trait Settles {
     /// Takes a new pass in place of the one in hand, which is dropped. Where it is refused, that stays.
     fn take_pass<R: Wait>(&mut self, rt: &R) -> Result<(), Fault>;
-
-    /// Whether a new pass is given out, which is dropped at once.
-    fn gives_pass<R: Wait>(&self, rt: &R) -> bool;
-
-    /// Takes a pass of the pool in place of the one in hand.
-    fn acquire_pass<R: Wait>(&mut self, rt: &R) -> Result<(), Fault>;
-
-    /// The same for no longer than a time.
-    fn acquire_pass_within<R: Clock + Wait>(&mut self, rt: &R, limit: Duration) -> Answer;
-
-    /// Hands the one in hand to the pool.
-    fn release_pass<R: Wait>(&mut self, rt: &R) -> Answer;
-
-    /// Takes the other pass in hand, a new one at first.
-    fn other_pass<R: Wait>(&mut self, rt: &R) -> Result<(), Fault>;
 
     /// Settles a transaction by a call, for no longer than a time where that has a limit.
     fn settle_by<R: Clock + Wait>(
@@ -64,34 +47,39 @@ pub(super) trait Calls {
         call: Call,
         limit: Duration,
     ) -> Result<Settled, Fault>;
+}
+
+/// One that plays a scene.
+pub(super) trait Calls: Settles {
+    /// Whether it has a pass in hand.
+    fn has_pass(&self) -> bool;
 
     /// Keeps an attempt at a transaction.
     fn keep_attempt<R: Wait>(&mut self, rt: &R, tx: Tx) -> Result<(), Fault>;
 
-    /// Settles the attempt that is kept.
-    fn settle_kept<R: Wait>(&mut self, rt: &R) -> Answer;
-
     /// Values at one moment.
     fn values<R: Wait>(&mut self, rt: &R, vars: &[u16]) -> Result<Vec<i64>, Fault>;
 
-    /// Why an invariant refuses a transaction.
+    /// Whether a new pass is given out, which is dropped at once.
+    fn gives_pass<R: Wait>(&self, rt: &R) -> bool;
+
+    /// Plays a move that is a call of the front with the hands.
+    fn call_by_hand<R: Clock + Wait>(&mut self, stage: &Stage<R>, step: Move) -> Answer;
+
+    /// Plays one that is a call by the pass in hand.
+    fn call_by_pass<R: Clock + Wait>(&mut self, stage: &Stage<R>, step: Move) -> Answer;
+}
+
+/// One that asks.
+pub(super) trait Asks: Settles {
+    /// Why an invariant refuses a transaction, or an attempt at one.
     fn why_refused<R: Wait>(
         &mut self,
         rt: &R,
         tx: Tx,
+        is_attempt: bool,
         name: &Name,
     ) -> Result<Option<Vec<(u16, i64)>>, Fault>;
-
-    /// Why it refuses an attempt at one.
-    fn why_attempt_refused<R: Wait>(
-        &mut self,
-        rt: &R,
-        tx: Tx,
-        name: &Name,
-    ) -> Result<Option<Vec<(u16, i64)>>, Fault>;
-
-    /// Plays a move that is one call of the front, by the pass in hand or by none.
-    fn call_front<R: Clock + Wait>(&mut self, stage: &Stage<R>, step: Move) -> Answer;
 }
 
 /// One caller of a front.
@@ -177,49 +165,10 @@ impl<'a, D: Disk + Drop, N: StoreNaming, T: Invariants + Drop, S: StoredSteps + 
     }
 }
 
-impl<D: Disk + Drop, N: StoreNaming, T: Invariants + Drop, S: StoredSteps + Drop> Calls
+impl<D: Disk + Drop, N: StoreNaming, T: Invariants + Drop, S: StoredSteps + Drop> Settles
     for Caller<'_, D, N, T, S> {
-    fn has_pass(&self) -> bool {
-        self.hands.pass.is_some()
-    }
-
     fn take_pass<R: Wait>(&mut self, rt: &R) -> Result<(), Fault> {
         self.hands.pass = Some(self.front.pass(rt)?);
-        Ok(())
-    }
-
-    fn gives_pass<R: Wait>(&self, rt: &R) -> bool {
-        self.front.pass(rt).is_ok()
-    }
-
-    fn acquire_pass<R: Wait>(&mut self, rt: &R) -> Result<(), Fault> {
-        self.hands.pass = Some(self.front.acquire_pass(rt)?);
-        Ok(())
-    }
-
-    fn acquire_pass_within<R: Clock + Wait>(&mut self, rt: &R, limit: Duration) -> Answer {
-        match self.front.acquire_pass_within(rt, limit) {
-            Ok(None) => Answer::Late,
-            Ok(pass) => {
-                self.hands.pass = pass;
-                Answer::Done
-            }
-            Err(fault) => Answer::refused(fault),
-        }
-    }
-
-    fn release_pass<R: Wait>(&mut self, rt: &R) -> Answer {
-        match self.hands.pass.take() {
-            Some(pass) => Answer::done(self.front.release_pass(rt, pass)),
-            None => Answer::Nothing,
-        }
-    }
-
-    fn other_pass<R: Wait>(&mut self, rt: &R) -> Result<(), Fault> {
-        if self.hands.other.is_none() {
-            self.hands.other = Some(self.front.pass(rt)?);
-        }
-        mem::swap(&mut self.hands.pass, &mut self.hands.other);
         Ok(())
     }
 
@@ -235,6 +184,13 @@ impl<D: Disk + Drop, N: StoreNaming, T: Invariants + Drop, S: StoredSteps + Drop
             None => Err(Fault::NoSeat),
         }
     }
+}
+
+impl<D: Disk + Drop, N: StoreNaming, T: Invariants + Drop, S: StoredSteps + Drop> Calls
+    for Caller<'_, D, N, T, S> {
+    fn has_pass(&self) -> bool {
+        self.hands.pass.is_some()
+    }
 
     fn keep_attempt<R: Wait>(&mut self, rt: &R, tx: Tx) -> Result<(), Fault> {
         let attempt = attempt_at(self.front, rt, tx)?;
@@ -245,13 +201,6 @@ impl<D: Disk + Drop, N: StoreNaming, T: Invariants + Drop, S: StoredSteps + Drop
         Ok(())
     }
 
-    fn settle_kept<R: Wait>(&mut self, rt: &R) -> Answer {
-        match (&mut self.hands.pass, &self.hands.kept) {
-            (Some(pass), Some(kept)) => Answer::to(self.front.settle(rt, pass, &kept.attempt)),
-            _ => Answer::Nothing,
-        }
-    }
-
     fn values<R: Wait>(&mut self, rt: &R, vars: &[u16]) -> Result<Vec<i64>, Fault> {
         match &mut self.hands.pass {
             Some(pass) => self.front.values(rt, pass, vars),
@@ -259,37 +208,110 @@ impl<D: Disk + Drop, N: StoreNaming, T: Invariants + Drop, S: StoredSteps + Drop
         }
     }
 
-    fn why_refused<R: Wait>(
-        &mut self,
-        rt: &R,
-        tx: Tx,
-        name: &Name,
-    ) -> Result<Option<Vec<(u16, i64)>>, Fault> {
-        match &mut self.hands.pass {
-            Some(pass) => why(self.front, rt, pass, tx, name),
-            None => Err(Fault::NoSeat),
+    fn gives_pass<R: Wait>(&self, rt: &R) -> bool {
+        self.front.pass(rt).is_ok()
+    }
+
+    fn call_by_hand<R: Clock + Wait>(&mut self, stage: &Stage<R>, step: Move) -> Answer {
+        match step {
+            Move::Settle => settle_kept(self.front, stage.rt, &mut self.hands),
+            Move::Acquire => Answer::done(acquire(self.front, stage.rt, &mut self.hands.pass)),
+            Move::AcquireWithin(millis) => {
+                acquire_within(self.front, stage, &mut self.hands.pass, millis)
+            }
+            Move::ReleasePass => release(self.front, stage.rt, &mut self.hands.pass),
+            Move::OtherPass => Answer::done(other_pass(self.front, stage.rt, &mut self.hands)),
+            _ => Answer::Nothing,
         }
     }
 
-    fn why_attempt_refused<R: Wait>(
-        &mut self,
-        rt: &R,
-        tx: Tx,
-        name: &Name,
-    ) -> Result<Option<Vec<(u16, i64)>>, Fault> {
-        let attempt = attempt_at(self.front, rt, tx)?;
-        match &mut self.hands.pass {
-            Some(pass) => self.front.why_attempt_refused(rt, pass, &attempt, name),
-            None => Err(Fault::NoSeat),
-        }
-    }
-
-    fn call_front<R: Clock + Wait>(&mut self, stage: &Stage<R>, step: Move) -> Answer {
+    fn call_by_pass<R: Clock + Wait>(&mut self, stage: &Stage<R>, step: Move) -> Answer {
         match &mut self.hands.pass {
             Some(pass) => call_by(self.front, stage, pass, step),
             None => Answer::Nothing,
         }
     }
+}
+
+impl<D: Disk + Drop, N: StoreNaming, T: Invariants + Drop, S: StoredSteps + Drop> Asks
+    for Caller<'_, D, N, T, S> {
+    fn why_refused<R: Wait>(
+        &mut self,
+        rt: &R,
+        tx: Tx,
+        is_attempt: bool,
+        name: &Name,
+    ) -> Result<Option<Vec<(u16, i64)>>, Fault> {
+        match &mut self.hands.pass {
+            Some(pass) if is_attempt => why_attempt(self.front, rt, pass, tx, name),
+            Some(pass) => why(self.front, rt, pass, tx, name),
+            None => Err(Fault::NoSeat),
+        }
+    }
+}
+
+// Settles the attempt that is kept.
+fn settle_kept<
+    D: Disk + Drop,
+    N: StoreNaming,
+    T: Invariants + Drop,
+    S: StoredSteps + Drop,
+    R: Wait,
+>(front: &Front<D, N, T, S>, rt: &R, hands: &mut Hands<N>) -> Answer {
+    match (&mut hands.pass, &hands.kept) {
+        (Some(pass), Some(kept)) => Answer::to(front.settle(rt, pass, &kept.attempt)),
+        _ => Answer::Nothing,
+    }
+}
+
+// Takes a pass of the pool in place of what is there.
+fn acquire<D: Disk + Drop, N: StoreNaming, T: Invariants + Drop, S: StoredSteps + Drop, R: Wait>(
+    front: &Front<D, N, T, S>,
+    rt: &R,
+    place: &mut Option<Pass<N>>,
+) -> Result<(), Fault> {
+    *place = Some(front.acquire_pass(rt)?);
+    Ok(())
+}
+
+fn acquire_within<
+    D: Disk + Drop,
+    N: StoreNaming,
+    T: Invariants + Drop,
+    S: StoredSteps + Drop,
+    R: Clock + Wait,
+>(front: &Front<D, N, T, S>, stage: &Stage<R>, place: &mut Option<Pass<N>>, millis: u64) -> Answer {
+    match front.acquire_pass_within(&stage.clock(), limit_of(millis)) {
+        Ok(None) => Answer::Late,
+        Ok(pass) => {
+            *place = pass;
+            Answer::Done
+        }
+        Err(fault) => Answer::refused(fault),
+    }
+}
+
+fn release<D: Disk + Drop, N: StoreNaming, T: Invariants + Drop, S: StoredSteps + Drop, R: Wait>(
+    front: &Front<D, N, T, S>,
+    rt: &R,
+    place: &mut Option<Pass<N>>,
+) -> Answer {
+    match place.take() {
+        Some(pass) => Answer::done(front.release_pass(rt, pass)),
+        None => Answer::Nothing,
+    }
+}
+
+fn other_pass<D: Disk + Drop, N: StoreNaming, T: Invariants + Drop, S: StoredSteps + Drop, R: Wait>(
+    front: &Front<D, N, T, S>,
+    rt: &R,
+    hands: &mut Hands<N>,
+) -> Result<(), Fault> {
+    if hands.other.is_none() {
+        hands.other = Some(front.pass(rt)?);
+    }
+    mem::swap(&mut hands.pass, &mut hands.other);
+    Ok(())
 }
 
 // Settles a transaction by a call.
@@ -390,6 +412,26 @@ fn why<D: Disk + Drop, N: StoreNaming, T: Invariants + Drop, S: StoredSteps + Dr
     }
 }
 
+// Why it refuses an attempt at one.
+fn why_attempt<
+    D: Disk + Drop,
+    N: StoreNaming,
+    T: Invariants + Drop,
+    S: StoredSteps + Drop,
+    R: Wait,
+>(
+    front: &Front<D, N, T, S>,
+    rt: &R,
+    pass: &mut Pass<N>,
+    tx: Tx,
+    name: &Name,
+) -> Result<Option<Vec<(u16, i64)>>, Fault> {
+    match attempt_at(front, rt, tx) {
+        Ok(attempt) => front.why_attempt_refused(rt, pass, &attempt, name),
+        Err(fault) => Err(fault),
+    }
+}
+
 // Plays a move that is one call by a pass.
 fn call_by<
     D: Disk + Drop,
@@ -400,7 +442,10 @@ fn call_by<
 >(front: &Front<D, N, T, S>, stage: &Stage<R>, pass: &mut Pass<N>, step: Move) -> Answer {
     match step {
         Move::Await(number) => Answer::done(front.await_durable(stage.rt, pass, number)),
-        Move::AwaitWithin(number, millis) => await_within(front, stage, pass, number, millis),
+        Move::AwaitWithin(number, millis) => {
+            let (rt, limit) = (stage.clock(), limit_of(millis));
+            Answer::awaited(front.await_durable_within(&rt, pass, number, limit))
+        }
         Move::FlushAll => Answer::number(front.flush_all(stage.rt, pass)),
         Move::Look => Answer::Number(front.look(pass)),
         Move::Seen => Answer::Number(pass.seen()),
@@ -409,23 +454,6 @@ fn call_by<
         Move::HasInvariant => Answer::Holds(front.has(stage.rt, pass, &always())),
         other => call_alone(front, stage, other),
     }
-}
-
-fn await_within<
-    D: Disk + Drop,
-    N: StoreNaming,
-    T: Invariants + Drop,
-    S: StoredSteps + Drop,
-    R: Clock + Wait,
->(
-    front: &Front<D, N, T, S>,
-    stage: &Stage<R>,
-    pass: &mut Pass<N>,
-    number: u64,
-    millis: u64,
-) -> Answer {
-    let rt = stage.clock();
-    Answer::awaited(front.await_durable_within(&rt, pass, number, limit_of(millis)))
 }
 
 // Only a number that the pass saw is vouched for.
@@ -451,15 +479,34 @@ fn call_alone<
     R: Clock + Wait,
 >(front: &Front<D, N, T, S>, stage: &Stage<R>, step: Move) -> Answer {
     match step {
-        Move::Peek(var) => peek(front, stage, var),
         Move::Flush => Answer::number(front.flush_once(stage.rt)),
         Move::FlushWithRoom => Answer::number(front.flush_with_room(stage.rt)),
-        Move::LogIs(want) => Answer::Holds(log(front, stage) == want),
-        Move::RunFlusher(left) => run_flusher(front, stage, left),
+        Move::RunFlusher(left) => {
+            let signals = stage.signals;
+            Answer::done(front.run_flusher(stage.rt, &mut Turns { left, signals }))
+        }
         Move::Checkpoint => Answer::done(front.checkpoint(stage.rt)),
-        Move::Shut => shut(front, stage),
+        Move::Shut => {
+            front.shut(stage.rt);
+            Answer::Done
+        }
         Move::Close => Answer::done(front.close(stage.rt)),
-        Move::FaultOf => fault_of(front, stage),
+        other => call_to_ask(front, stage, other),
+    }
+}
+
+// Plays one that asks what there is.
+fn call_to_ask<
+    D: Disk + Drop,
+    N: StoreNaming,
+    T: Invariants + Drop,
+    S: StoredSteps + Drop,
+    R: Clock + Wait,
+>(front: &Front<D, N, T, S>, stage: &Stage<R>, step: Move) -> Answer {
+    match step {
+        Move::Peek(var) => peek(front, stage, var),
+        Move::LogIs(want) => Answer::Holds(counts_of(front.log(stage.rt)) == want),
+        Move::FaultOf => Answer::fault(front.fault(stage.rt)),
         Move::LooksAtMost(most) => Answer::Holds(front.looks(stage.rt) <= most),
         Move::LooksAtLeast(least) => Answer::Holds(front.looks(stage.rt) >= least),
         other => stage.answer(other),
@@ -480,40 +527,6 @@ fn peek<D: Disk + Drop, N: StoreNaming, T: Invariants + Drop, S: StoredSteps + D
 }
 
 // How many flushes and checkpoints were made, and how many slots are free.
-fn log<D: Disk + Drop, N: StoreNaming, T: Invariants + Drop, S: StoredSteps + Drop, R: Wait>(
-    front: &Front<D, N, T, S>,
-    stage: &Stage<R>,
-) -> [u64; 3] {
-    let log = front.log(stage.rt);
+fn counts_of(log: LogCounts) -> [u64; 3] {
     [log.flushes, log.checkpoints, u64::from(log.free_slots)]
-}
-
-fn run_flusher<
-    D: Disk + Drop,
-    N: StoreNaming,
-    T: Invariants + Drop,
-    S: StoredSteps + Drop,
-    R: Wait,
->(front: &Front<D, N, T, S>, stage: &Stage<R>, left: u64) -> Answer {
-    let signals = stage.signals;
-    Answer::done(front.run_flusher(stage.rt, &mut Turns { left, signals }))
-}
-
-fn shut<D: Disk + Drop, N: StoreNaming, T: Invariants + Drop, S: StoredSteps + Drop, R: Wait>(
-    front: &Front<D, N, T, S>,
-    stage: &Stage<R>,
-) -> Answer {
-    front.shut(stage.rt);
-    Answer::Done
-}
-
-// The fault that shut the store.
-fn fault_of<D: Disk + Drop, N: StoreNaming, T: Invariants + Drop, S: StoredSteps + Drop, R: Wait>(
-    front: &Front<D, N, T, S>,
-    stage: &Stage<R>,
-) -> Answer {
-    match front.fault(stage.rt) {
-        Some(fault) => Answer::refused(fault),
-        None => Answer::Nothing,
-    }
 }
