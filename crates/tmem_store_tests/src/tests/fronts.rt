@@ -295,6 +295,19 @@ fn must_end(rt: &impl Abort, number: usize, call: Call, had: Ends, want: Ends) {
     assert!(rt; had == want, "row {number} ends by {call:?} so: {had:?}");
 }
 
+/// How a transaction ends by a call, where so many were committed before.
+fn end_by<C: Asks, R: Clock + Wait>(
+    rt: &R,
+    alloc: Global,
+    caller: &mut C,
+    (call, task): (Call, Task),
+    committed: u64,
+) -> Result<Ends, Fault> {
+    let tx = task.tx(alloc)?;
+    let settled = caller.settle_by(rt, tx, call, Duration::from_secs(60));
+    Ok(end_of(settled, committed))
+}
+
 /// Plays a row, and answers how many are committed then.
 fn play_row<C: Asks, R: Abort + Clock + Wait>(
     rt: &R,
@@ -306,8 +319,7 @@ fn play_row<C: Asks, R: Abort + Clock + Wait>(
     let (calls, task, times, want) = *row;
     for call in calls {
         for _ in 0..times {
-            let settled = caller.settle_by(rt, task.tx(alloc)?, *call, Duration::from_secs(60));
-            let had = end_of(settled, committed);
+            let had = end_by(rt, alloc, caller, (*call, task), committed)?;
             must_end(rt, number, *call, had, want);
             committed = committed.wrapping_add(u64::from(had == Ends::Commits));
         }

@@ -1,7 +1,6 @@
 //! Scenes: in each a new store, and what one thread does with it, then several at once, and then that one again.
-ghost use Rattle.std.specs.Prelude.{◌≡◌, ◌<◌, length};
-ghost use Rattle.tmem_front.specs.Held.{front_found, spine_of, front_table};
-ghost use Rattle.tmem_store_tests.specs.Examples.{adds_and_needs};
+ghost use Rattle.std.specs.Prelude.{◌≡◌, ◌<◌, length, IfOk};
+ghost use Rattle.tmem_front.specs.Held.{front_found, spine_of, front_steps, front_table};
 
 use super::moves::{Answer, Move};
 use super::no_closures::{AddsAndNeeds, AlwaysTrue};
@@ -11,7 +10,7 @@ use super::stage::Stage;
 use super::stage_disk::StageDisk;
 use super::store::{Caller, Calls, Settles};
 use super::worlds::formatted;
-use std::alloc::Global;
+use std::alloc::{AllocError, Global};
 use std::marker::Brand;
 use std::process::Abort;
 use std::rt::Clock;
@@ -362,9 +361,6 @@ fn play_on<
     play_whole_scene(stage, front, &mut Caller::new(front))
 }
 
-/// A store over a table on a device that waits and fails as a scene wants it.
-pub(super) type Opened<'a, T, R> = OpenedFront<StageDisk<'a, SimDisk, R>, T, AddsAndNeeds<'a>>;
-
 // A new device that fails as it is to.
 fn new_disk(alloc: Global, device: Device) -> Result<SimDisk, Fault> {
     let mut disk = formatted(alloc, device.vars, device.slots)?;
@@ -397,18 +393,19 @@ pub(super) fn stage_disk<'a, R: Clock>(
     })
 }
 
-// A new store.
-fn open<'a, R: Clock>(
-    stage: &Stage<'a, R>,
+/// A store on a device of these numbers, which is gone where it is refused.
+pub(super) fn open<D: Disk + Drop, T: Invariants + Drop, S: StoredSteps + Drop>(
+    alloc: Global,
+    disk: D,
     device: Device,
-) -> Result<Opened<'a, AlwaysTrue, R>, Fault> {
-    let disk = stage_disk(stage, device)?;
-    let vars = device.vars;
-    let table = AlwaysTrue { vars };
-    let steps = AddsAndNeeds {
-        signals: stage.signals,
-    };
-    match OpenedFront::open(stage.alloc, disk, vars, device.slots, table, steps) {
+    table: T,
+    steps: S,
+) -> Result<OpenedFront<D, T, S>, Fault>
+    requires { T.vars table ≡ device.vars }
+    ensures table { IfOk result (λ opened. front_table opened ≡ table) }
+    ensures steps { IfOk result (λ opened. front_steps opened ≡ steps) }
+{
+    match OpenedFront::open(alloc, disk, device.vars, device.slots, table, steps) {
         Ok(opened) => Ok(opened),
         Err((fault, _disk)) => Err(fault),
     }
@@ -416,13 +413,15 @@ fn open<'a, R: Clock>(
 
 /// A scene in a store under its name, out of which its device is taken at the end.
 pub(super) fn play_named<
+    D: Disk + Drop + Send,
     N: StoreNaming + Send + Sync,
     T: Invariants + Drop + Send,
+    S: StoredSteps + Drop + Send + Sync,
     R: Clock + Threads + Wait + Sync,
->(stage: &Stage<R>, opened: Opened<T, R>) -> Option<Wrong>
+>(stage: &Stage<R>, opened: OpenedFront<D, T, S>) -> Option<Wrong>
     requires spine { spine_of opened ≡ N.name }
     requires opening { front_found opened ≡ N.opening }
-    requires steps { N.program.steps ≡ adds_and_needs }
+    requires steps { S.is_stated (front_steps opened) N.program.steps }
     requires names { T.names (front_table opened) ≡ N.program.names }
     requires stated { T.is_stated (front_table opened) N.program.tests }
 {
@@ -437,10 +436,18 @@ pub(super) fn play_named<
 }
 
 // A scene in a new store.
-fn play_on_stage<R: Clock + Threads + Wait + Sync>(stage: &Stage<R>) -> Option<Wrong> {
-    match open(stage, device_of(stage.lines)) {
-        Ok(opened) => play_named::<Brand, _, _>(stage, opened),
-        Err(fault) => Some(Wrong::NotBegun(fault)),
+fn play_on_stage<R: Clock + Threads + Wait + Sync>(
+    stage: &Stage<R>,
+) -> Result<Option<Wrong>, Fault> {
+    let device = device_of(stage.lines);
+    let disk = stage_disk(stage, device)?;
+    let table = AlwaysTrue { vars: device.vars };
+    let steps = AddsAndNeeds {
+        signals: stage.signals,
+    };
+    match open(stage.alloc, disk, device, table, steps) {
+        Ok(opened) => Ok(play_named::<_, Brand, _, _, _>(stage, opened)),
+        Err(fault) => Err(fault),
     }
 }
 
@@ -459,7 +466,10 @@ fn play_scene<R: Clock + Threads + Wait + Sync>(
         skip: skip_of(lines),
         readings: readings_of(lines),
     };
-    play_on_stage(&stage)
+    match play_on_stage(&stage) {
+        Ok(wrong) => wrong,
+        Err(fault) => Some(Wrong::NotBegun(fault)),
+    }
 }
 
 // The lines of the scene that begins there.
@@ -544,6 +554,19 @@ fn played_in<R: Abort>(rt: &R, ended: &Result<usize, (&str, Wrong)>) -> usize {
     }
 }
 
+// How many were played in all lanes.
+fn play_lanes<R: Abort + Clock + Threads + Wait + Sync>(
+    rt: &R,
+    alloc: Global,
+    lines: &[Line],
+) -> Result<usize, AllocError> {
+    let mut played: usize = 0;
+    for ended in map_indices(rt, alloc, LANES, &|lane| play_lane(rt, alloc, lines, lane))? {
+        played = played.saturating_add(played_in(rt, &ended));
+    }
+    Ok(played)
+}
+
 /// Plays the scenes of a table, each in a new store, and several at once. Fails with one of the things that went wrong, or where a scene
 /// was left out.
 pub(super) fn play<R: Abort + Clock + Threads + Wait + Sync>(
@@ -554,10 +577,7 @@ pub(super) fn play<R: Abort + Clock + Threads + Wait + Sync>(
     let begins = matches!(lines.first(), Some(Line::Scene(_)));
     assert!(rt; begins, "a table begins with a scene");
     let scenes = scenes_of(rt, lines);
-    let mut played: usize = 0;
-    for ended in map_indices(rt, alloc, LANES, &|lane| play_lane(rt, alloc, lines, lane))? {
-        played = played.saturating_add(played_in(rt, &ended));
-    }
+    let played = play_lanes(rt, alloc, lines)?;
     assert!(rt; played == scenes, "{played} of {scenes} scenes were played");
     Ok(())
 }

@@ -7,7 +7,7 @@ use super::moves::Move::{AwaitHeld, Commit, HoldSteps, Release, TryCommit};
 use super::moves::Task;
 use super::no_closures::{AddsAndNeeds, always};
 use super::scenes::Line::{Before, First, Last, Scene};
-use super::scenes::{Line, Wrong, device_of, play_named, stage_disk};
+use super::scenes::{Line, Wrong, device_of, open, play_named, stage_disk};
 use super::signals::Signals;
 use super::stage::Stage;
 use std::alloc::Global;
@@ -19,7 +19,6 @@ use std::test::Fail;
 use std::thread::Threads;
 use std::time::Duration;
 use tmem_fault::Fault;
-use tmem_front::OpenedFront;
 use tmem_invariants::Invariants;
 use tmem_tables::{Invariant, Table};
 
@@ -53,9 +52,9 @@ fn play_on_stage<T: Invariants + Drop + Send, R: Clock + Threads + Wait + Sync>(
     let steps = AddsAndNeeds {
         signals: stage.signals,
     };
-    match OpenedFront::open(stage.alloc, disk, VARS, device.slots, table, steps) {
-        Ok(opened) => Ok(play_named::<Brand, T, R>(stage, opened)),
-        Err((fault, _disk)) => Err(fault),
+    match open(stage.alloc, disk, device, table, steps) {
+        Ok(opened) => Ok(play_named::<_, Brand, _, _, _>(stage, opened)),
+        Err(fault) => Err(fault),
     }
 }
 

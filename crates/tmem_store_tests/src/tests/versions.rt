@@ -73,11 +73,16 @@ fn play_later<W: Played>(rt: &impl Abort, alloc: Global, world: &mut W) -> Resul
     Ok(())
 }
 
+/// The first version has no step.
+fn begin(rt: &impl Abort, alloc: Global) -> Result<SimDisk, Fault> {
+    let steps = Steps::of(Vec::new(alloc))?;
+    begin_on(rt, alloc, Table::of(alloc, Vec::new(alloc), 4)?, steps)
+}
+
 #[test]
 fn a_store_outlives_the_steps_of_its_program(rt: HostRuntime) -> Result<(), Fail> {
     let alloc = rt.alloc();
-    let none = Steps::of(Vec::new(alloc))?;
-    let disk = begin_on(&rt, alloc, Table::of(alloc, Vec::new(alloc), 4)?, none)?;
+    let disk = begin(&rt, alloc)?;
     let table = Table::of(alloc, Vec::new(alloc), 4)?;
     reopen_and_play(&rt, alloc, disk, table, stored_steps())?;
     Ok(())
