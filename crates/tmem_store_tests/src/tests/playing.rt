@@ -21,11 +21,13 @@ pub(super) fn answer<C: Calls, R: Clock + Wait>(
     match step {
         Move::Attempt(task) => attempt(stage, caller, task),
         Move::NewPass => Answer::done(caller.take_pass(stage.rt)),
-        Move::Settle
-        | Move::Acquire
-        | Move::AcquireWithin(_)
-        | Move::ReleasePass
-        | Move::OtherPass => caller.call_by_hand(stage, step),
+        Move::AcquireWithin(millis) => {
+            caller.acquire_pass_within(&stage.clock(), limit_of(millis))
+        }
+        Move::Settle => caller.call_by_hand(stage.rt, step),
+        Move::Acquire => caller.call_by_hand(stage.rt, step),
+        Move::ReleasePass => caller.call_by_hand(stage.rt, step),
+        Move::OtherPass => caller.call_by_hand(stage.rt, step),
         other => answer_by(stage, caller, other),
     }
 }

@@ -63,8 +63,11 @@ pub(super) trait Calls: Settles {
     /// Whether a new pass is given out, which is dropped at once.
     fn gives_pass<R: Wait>(&self, rt: &R) -> bool;
 
+    /// Takes a pass of the pool in place of the one in hand, for no longer than a time.
+    fn acquire_pass_within<R: Clock + Wait>(&mut self, rt: &R, limit: Duration) -> Answer;
+
     /// Plays a move that is a call of the front with the hands.
-    fn call_by_hand<R: Clock + Wait>(&mut self, stage: &Stage<R>, step: Move) -> Answer;
+    fn call_by_hand<R: Wait>(&mut self, rt: &R, step: Move) -> Answer;
 
     /// Plays one that is a call by the pass in hand.
     fn call_by_pass<R: Clock + Wait>(&mut self, stage: &Stage<R>, step: Move) -> Answer;
@@ -212,15 +215,23 @@ impl<D: Disk + Drop, N: StoreNaming, T: Invariants + Drop, S: StoredSteps + Drop
         self.front.pass(rt).is_ok()
     }
 
-    fn call_by_hand<R: Clock + Wait>(&mut self, stage: &Stage<R>, step: Move) -> Answer {
-        match step {
-            Move::Settle => settle_kept(self.front, stage.rt, &mut self.hands),
-            Move::Acquire => Answer::done(acquire(self.front, stage.rt, &mut self.hands.pass)),
-            Move::AcquireWithin(millis) => {
-                acquire_within(self.front, stage, &mut self.hands.pass, millis)
+    fn acquire_pass_within<R: Clock + Wait>(&mut self, rt: &R, limit: Duration) -> Answer {
+        match self.front.acquire_pass_within(rt, limit) {
+            Ok(None) => Answer::Late,
+            Ok(pass) => {
+                self.hands.pass = pass;
+                Answer::Done
             }
-            Move::ReleasePass => release(self.front, stage.rt, &mut self.hands.pass),
-            Move::OtherPass => Answer::done(other_pass(self.front, stage.rt, &mut self.hands)),
+            Err(fault) => Answer::refused(fault),
+        }
+    }
+
+    fn call_by_hand<R: Wait>(&mut self, rt: &R, step: Move) -> Answer {
+        match step {
+            Move::Settle => settle_kept(self.front, rt, &mut self.hands),
+            Move::Acquire => Answer::done(acquire(self.front, rt, &mut self.hands.pass)),
+            Move::ReleasePass => release(self.front, rt, &mut self.hands.pass),
+            Move::OtherPass => Answer::done(other_pass(self.front, rt, &mut self.hands)),
             _ => Answer::Nothing,
         }
     }
@@ -272,23 +283,6 @@ fn acquire<D: Disk + Drop, N: StoreNaming, T: Invariants + Drop, S: StoredSteps 
 ) -> Result<(), Fault> {
     *place = Some(front.acquire_pass(rt)?);
     Ok(())
-}
-
-fn acquire_within<
-    D: Disk + Drop,
-    N: StoreNaming,
-    T: Invariants + Drop,
-    S: StoredSteps + Drop,
-    R: Clock + Wait,
->(front: &Front<D, N, T, S>, stage: &Stage<R>, place: &mut Option<Pass<N>>, millis: u64) -> Answer {
-    match front.acquire_pass_within(&stage.clock(), limit_of(millis)) {
-        Ok(None) => Answer::Late,
-        Ok(pass) => {
-            *place = pass;
-            Answer::Done
-        }
-        Err(fault) => Answer::refused(fault),
-    }
 }
 
 fn release<D: Disk + Drop, N: StoreNaming, T: Invariants + Drop, S: StoredSteps + Drop, R: Wait>(
@@ -442,10 +436,7 @@ fn call_by<
 >(front: &Front<D, N, T, S>, stage: &Stage<R>, pass: &mut Pass<N>, step: Move) -> Answer {
     match step {
         Move::Await(number) => Answer::done(front.await_durable(stage.rt, pass, number)),
-        Move::AwaitWithin(number, millis) => {
-            let (rt, limit) = (stage.clock(), limit_of(millis));
-            Answer::awaited(front.await_durable_within(&rt, pass, number, limit))
-        }
+        Move::AwaitWithin(number, millis) => await_within(front, stage, pass, number, millis),
         Move::FlushAll => Answer::number(front.flush_all(stage.rt, pass)),
         Move::Look => Answer::Number(front.look(pass)),
         Move::Seen => Answer::Number(pass.seen()),
@@ -454,6 +445,23 @@ fn call_by<
         Move::HasInvariant => Answer::Holds(front.has(stage.rt, pass, &always())),
         other => call_alone(front, stage, other),
     }
+}
+
+fn await_within<
+    D: Disk + Drop,
+    N: StoreNaming,
+    T: Invariants + Drop,
+    S: StoredSteps + Drop,
+    R: Clock + Wait,
+>(
+    front: &Front<D, N, T, S>,
+    stage: &Stage<R>,
+    pass: &mut Pass<N>,
+    number: u64,
+    millis: u64,
+) -> Answer {
+    let rt = stage.clock();
+    Answer::awaited(front.await_durable_within(&rt, pass, number, limit_of(millis)))
 }
 
 // Only a number that the pass saw is vouched for.
