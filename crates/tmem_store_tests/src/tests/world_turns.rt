@@ -3,14 +3,14 @@ ghost use Rattle.std.specs.Prelude.{◌≡◌, ◌≤◌, length};
 ghost use Rattle.tmem_store_tests.specs.Programs.{is_last_not_negative};
 
 use super::names::{add, numbered, variables_of};
-use super::worlds::{Played, committed, opened, turns};
+use super::worlds::{Played, committed, opened};
 use std::alloc::Global;
 use std::test::Fail;
 use tmem_fault::Fault;
 use tmem_invariants::Invariants;
 use tmem_tables::Table;
-use tmem_tree::{Shape, Steps, StoredSteps, Tx, shapes_of};
-use tmem_world::Event;
+use tmem_tree::{MAX_TURNS, Shape, Steps, StoredSteps, Tx, shapes_of};
+use tmem_world::{Event, Reply};
 
 const VARS: u16 = 1024;
 
@@ -25,6 +25,18 @@ fn reads_and_checks(alloc: Global) -> Result<Tx, Fault> {
         all.push(Tx::Check { name })?;
     }
     Ok(Tx::Seq(all))
+}
+
+/// How many turns a transaction takes until it has ended, or 0 where the most that there may be are too few.
+fn turns<W: Played>(world: &mut W, tx: Tx) -> u32 {
+    world.step(Event::Begin { slot: 0, tx });
+    for turn in 1..=MAX_TURNS {
+        let reply = world.step(Event::Turn { slot: 0 });
+        if matches!(reply, Reply::Ended) {
+            return turn;
+        }
+    }
+    0
 }
 
 /// How many turns that transaction takes as the first of a store, or 0 where it is not committed then.

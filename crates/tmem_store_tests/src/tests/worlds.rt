@@ -84,28 +84,19 @@ impl<T: Invariants + Drop, S: StoredSteps + Drop> Played for World<SimDisk, T, S
     }
 }
 
-/// Begins a transaction in attempt 0, and evaluates it to its end. Answers in how many turns, or 0 where the most that there may be are
-/// too few.
-pub(super) fn turns<W: Played>(world: &mut W, tx: Tx) -> u32 {
+/// Begins a transaction in attempt 0, evaluates it to its end, and settles it.
+pub(super) fn commit<W: Played>(world: &mut W, tx: Tx) -> Reply {
     world.step(Event::Begin { slot: 0, tx });
-    for turn in 1..=MAX_TURNS {
+    for _ in 0..=MAX_TURNS {
         let reply = world.step(Event::Turn { slot: 0 });
         if matches!(reply, Reply::Ended) {
-            return turn;
+            return world.step(Event::Settle { slot: 0 });
         }
     }
-    0
+    Reply::Idle
 }
 
-/// The same, and settles it.
-pub(super) fn commit<W: Played>(world: &mut W, tx: Tx) -> Reply {
-    if turns(world, tx) == 0 {
-        return Reply::Idle;
-    }
-    world.step(Event::Settle { slot: 0 })
-}
-
-/// Commits a transaction, where this is to be its reply.
+/// The same, where this is to be its reply.
 pub(super) fn commit_to<W: Played>(rt: &impl Abort, world: &mut W, tx: Tx, want: Reply) {
     must_be(rt, &commit(world, tx), &want);
 }
