@@ -254,8 +254,7 @@ impl<D: Disk + Drop, N: StoreNaming, T: Invariants + Drop, S: StoredSteps + Drop
         name: &Name,
     ) -> Result<Option<Vec<(u16, i64)>>, Fault> {
         match &mut self.hands.pass {
-            Some(pass) if is_attempt => why_attempt(self.front, rt, pass, tx, name),
-            Some(pass) => why(self.front, rt, pass, tx, name),
+            Some(pass) => why(self.front, rt, pass, tx, is_attempt, name),
             None => Err(Fault::NoSeat),
         }
     }
@@ -392,8 +391,23 @@ fn attempt_at<D: Disk + Drop, N: StoreNaming, T: Invariants + Drop, S: StoredSte
     }
 }
 
-// Why an invariant refuses a transaction.
+// Why an invariant refuses a transaction, or an attempt at one.
 fn why<D: Disk + Drop, N: StoreNaming, T: Invariants + Drop, S: StoredSteps + Drop, R: Wait>(
+    front: &Front<D, N, T, S>,
+    rt: &R,
+    pass: &mut Pass<N>,
+    tx: Tx,
+    is_attempt: bool,
+    name: &Name,
+) -> Result<Option<Vec<(u16, i64)>>, Fault> {
+    if is_attempt {
+        why_attempt(front, rt, pass, tx, name)
+    } else {
+        why_plan(front, rt, pass, tx, name)
+    }
+}
+
+fn why_plan<D: Disk + Drop, N: StoreNaming, T: Invariants + Drop, S: StoredSteps + Drop, R: Wait>(
     front: &Front<D, N, T, S>,
     rt: &R,
     pass: &mut Pass<N>,
@@ -406,7 +420,6 @@ fn why<D: Disk + Drop, N: StoreNaming, T: Invariants + Drop, S: StoredSteps + Dr
     }
 }
 
-// Why it refuses an attempt at one.
 fn why_attempt<
     D: Disk + Drop,
     N: StoreNaming,
