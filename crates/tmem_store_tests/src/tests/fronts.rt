@@ -97,7 +97,7 @@ const ROWS: &[Row] = &[
 
 /// A question why what makes variable 0 a number is refused.
 #[derive(Clone, Copy)]
-enum Asked {
+pub(super) enum Asked {
     /// Of a plan that then checks that it is not negative, and makes it 2.
     ByPlanThatChecks(i64),
     ByPlan(i64),
@@ -266,8 +266,7 @@ fn why_of<C: Asks, R: Wait>(
 ) -> Result<Option<i64>, Fault> {
     let tx = asked.tx(alloc)?;
     let name = names()[0];
-    let is_attempt = matches!(asked, Asked::ByAttempt(_));
-    told_alone(caller.why_refused(rt, tx, is_attempt, &name))
+    told_alone(caller.why_refused(rt, tx, asked, &name))
 }
 
 fn must_be(rt: &impl Abort, asked: Asked, had: Option<i64>, want: Option<i64>) {

@@ -5,6 +5,7 @@ ghost use Rattle.tmem_tentative.specs.CursorFacts.{IsEndingFor-prop};
 ghost use Rattle.tmem_tentative.specs.Fits.{IsForVariables, IsForNames};
 ghost use Rattle.tmem_tree.specs.Plans.{FitsSteps, FitsVariables, FitsNames, FitsShapes};
 
+use super::fronts::Asked;
 use super::moves::{Answer, Move};
 use super::no_closures::always;
 use super::signals::Signals;
@@ -80,7 +81,7 @@ pub(super) trait Asks: Settles {
         &mut self,
         rt: &R,
         tx: Tx,
-        is_attempt: bool,
+        asked: Asked,
         name: &Name,
     ) -> Result<Option<Vec<(u16, i64)>>, Fault>;
 }
@@ -250,11 +251,11 @@ impl<D: Disk + Drop, N: StoreNaming, T: Invariants + Drop, S: StoredSteps + Drop
         &mut self,
         rt: &R,
         tx: Tx,
-        is_attempt: bool,
+        asked: Asked,
         name: &Name,
     ) -> Result<Option<Vec<(u16, i64)>>, Fault> {
         match &mut self.hands.pass {
-            Some(pass) => why(self.front, rt, pass, tx, is_attempt, name),
+            Some(pass) => why(self.front, rt, pass, tx, asked, name),
             None => Err(Fault::NoSeat),
         }
     }
@@ -397,13 +398,12 @@ fn why<D: Disk + Drop, N: StoreNaming, T: Invariants + Drop, S: StoredSteps + Dr
     rt: &R,
     pass: &mut Pass<N>,
     tx: Tx,
-    is_attempt: bool,
+    asked: Asked,
     name: &Name,
 ) -> Result<Option<Vec<(u16, i64)>>, Fault> {
-    if is_attempt {
-        why_attempt(front, rt, pass, tx, name)
-    } else {
-        why_plan(front, rt, pass, tx, name)
+    match asked {
+        Asked::ByAttempt(_) => why_attempt(front, rt, pass, tx, name),
+        _ => why_plan(front, rt, pass, tx, name),
     }
 }
 
