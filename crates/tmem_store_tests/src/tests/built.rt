@@ -1,15 +1,14 @@
 //! Transactions that are built over the steps of scripts, on a world.
-use super::worlds::{commit, opened};
+use super::worlds::{Played, commit, opened};
 use std::alloc::{AllocError, Global};
 use std::process::Abort;
 use std::test::Fail;
 use tmem_builtins::{add_to, all_of, first_of, first_of_several, put, read, stored_steps, take};
-use tmem_disk::SimDisk;
 use tmem_fault::Fault;
 use tmem_invariants::Invariants;
 use tmem_tables::Table;
 use tmem_tree::{StoredSteps, Tx};
-use tmem_world::{Reply, Settled, World};
+use tmem_world::{Reply, Settled};
 
 /// What is built.
 #[derive(Clone, Copy)]
@@ -89,13 +88,18 @@ impl Built {
 }
 
 fn moves(alloc: Global, from: u16, to: u16, n: i64) -> Result<Tx, AllocError> {
-    let (taken, added) = (take(alloc, from, n)?, add_to(alloc, to, n)?);
-    Ok(all_of(vec![in alloc; taken, added]?))
+    let mut parts = Vec::new(alloc);
+    parts.push(take(alloc, from, n)?)?;
+    parts.push(add_to(alloc, to, n)?)?;
+    Ok(all_of(parts))
 }
 
 fn takes_or_puts_or(alloc: Global, n: i64) -> Result<Tx, AllocError> {
-    let (taken, this, other) = (take(alloc, 0, 1)?, put(alloc, 2, n)?, put(alloc, 2, 1)?);
-    first_of_several(alloc, vec![in alloc; taken, this, other]?)
+    let mut alternatives = Vec::new(alloc);
+    alternatives.push(take(alloc, 0, 1)?)?;
+    alternatives.push(put(alloc, 2, n)?)?;
+    alternatives.push(put(alloc, 2, 1)?)?;
+    first_of_several(alloc, alternatives)
 }
 
 fn last_of_ten(alloc: Global, n: i64) -> Result<Tx, AllocError> {
@@ -117,11 +121,7 @@ fn end_of(reply: &Reply) -> Ends {
     }
 }
 
-fn plays<T: Invariants + Drop, S: StoredSteps + Drop>(
-    rt: &impl Abort,
-    alloc: Global,
-    world: &mut World<SimDisk, T, S>,
-) -> Result<(), Fault> {
+fn plays<W: Played>(rt: &impl Abort, alloc: Global, world: &mut W) -> Result<(), Fault> {
     let mut row = 0u32;
     for (built, want) in ROWS {
         let had = end_of(&commit(world, built.tx(alloc)?));

@@ -3,8 +3,9 @@ ghost use Rattle.std.specs.Prelude.{◌≡◌, length};
 ghost use Rattle.tmem_builtins.specs.Invariants.{is_not_negative};
 ghost use Rattle.tmem_front.specs.Held.{front_found, spine_of, front_steps, front_table};
 ghost use Rattle.tmem_store_tests.specs.Programs.{checked_program};
-ghost use Rattle.tmem_tree.specs.Plans.{FitsSteps, FitsVariables, FitsNames, FitsShapes};
 
+use super::nodes::{Node, or_else, push_all, seq, when};
+use super::store::{Asks, Call, Caller, Settles};
 use super::worlds::formatted;
 use std::alloc::{AllocError, Global};
 use std::marker::Brand;
@@ -16,23 +17,11 @@ use std::time::Duration;
 use tmem_builtins::{names, nonneg, stored_steps};
 use tmem_disk::Disk;
 use tmem_fault::Fault;
-use tmem_front::{Front, OpenedFront, Pass, StoreNaming};
+use tmem_front::{OpenedFront, StoreNaming};
 use tmem_invariants::Invariants;
 use tmem_tables::{Invariant, Table};
-use tmem_tentative::Attempt;
-use tmem_tree::{Plan, StoredSteps, Tx};
+use tmem_tree::{StoredSteps, Tx};
 use tmem_world::Settled;
-
-/// A call that settles a transaction, or an attempt with its settle.
-#[derive(Clone, Copy, Debug)]
-enum Call {
-    AttemptAndSettle,
-    TryAtomically,
-    Atomically,
-    AtomicallyWithin,
-    AtomicallyWithRoom,
-    CommitDurable,
-}
 
 const ALL: &[Call] = &[
     Call::AttemptAndSettle,
@@ -60,7 +49,7 @@ const REFUSED_ROOM: &[Call] = &[
     Call::AtomicallyWithin,
 ];
 
-#[derive(Clone, Copy, Debug)]
+#[derive(Clone, Copy)]
 enum Task {
     /// Writes a 1 to variable 0.
     WriteOne,
@@ -108,7 +97,7 @@ const ROWS: &[Row] = &[
 
 /// A question why what makes variable 0 a number is refused.
 #[derive(Clone, Copy)]
-enum Asked {
+pub(super) enum Asked {
     /// Of a plan that then checks that it is not negative, and makes it 2.
     ByPlanThatChecks(i64),
     ByPlan(i64),
@@ -130,7 +119,7 @@ impl Task {
             Task::WriteOne => write_number(alloc, 1),
             Task::EachForm(aborts) => each_form(alloc, aborts),
             Task::Largest(number) => deepened(alloc, largest(alloc, number)?),
-            Task::Reads => reads(alloc),
+            Task::Reads => seq(alloc, &[Node::ReadEach(0, 500, 0)]),
             Task::ReadsAndChecks => reads_and_checks(alloc),
         }
     }
@@ -154,32 +143,23 @@ impl Asked {
 }
 
 fn each_form(alloc: Global, aborts: i64) -> Result<Tx, AllocError> {
-    let args = vec![in alloc; 0, 0]?;
-    let retries = Box::new(alloc, Tx::Retry)?;
-    let writes = Box::new(alloc, Tx::Write { var: 0, reg: 0 })?;
-    let then = Box::new(alloc, Tx::Abort { code: 7 })?;
-    let other = Box::new(alloc, Tx::Skip)?;
-    Ok(Tx::Seq(vec![in alloc;
-        Tx::Put { reg: 0, number: 5 },
-        Tx::Put {
-            reg: 3,
-            number: aborts
-        },
-        Tx::Read { var: 1, reg: 1 },
-        Tx::OrElse(retries, writes),
-        Tx::Step {
-            index: 0,
-            args,
-            out: 2
-        },
-        Tx::Retire { name: names()[0] },
-        Tx::Check { name: names()[0] },
-        Tx::When {
-            reg: 3,
-            then,
-            other
-        },
-    ]?))
+    let name = names()[0];
+    let first = [
+        Node::PutNumber(0, 5),
+        Node::PutNumber(3, aborts),
+        Node::ReadValue(1, 1),
+    ];
+    let second = [
+        Node::CallStep(0, [0, 0], 2),
+        Node::RetireName(name),
+        Node::CheckName(name),
+    ];
+    let mut all = Vec::new(alloc);
+    push_all(alloc, &mut all, &first)?;
+    all.push(or_else(alloc, Tx::Retry, Tx::Write { var: 0, reg: 0 })?)?;
+    push_all(alloc, &mut all, &second)?;
+    all.push(when(alloc, 3, Tx::Abort { code: 7 }, Tx::Skip)?)?;
+    Ok(Tx::Seq(all))
 }
 
 /// One of 482 nodes that is 2 deep.
@@ -209,112 +189,28 @@ fn deepened(alloc: Global, mut tx: Tx) -> Result<Tx, AllocError> {
     Ok(tx)
 }
 
-fn reads(alloc: Global) -> Result<Tx, AllocError> {
-    let mut all = Vec::new(alloc);
-    for var in 0..500 {
-        all.push(Tx::Read { var, reg: 0 })?;
-    }
-    Ok(Tx::Seq(all))
-}
-
 fn reads_and_checks(alloc: Global) -> Result<Tx, AllocError> {
-    let mut all = Vec::new(alloc);
-    for var in 1..511 {
-        all.push(Tx::Read { var, reg: 0 })?;
-    }
-    all.push(Tx::Check { name: names()[0] })?;
-    Ok(Tx::Seq(all))
+    seq(
+        alloc,
+        &[Node::ReadEach(1, 511, 0), Node::CheckName(names()[0])],
+    )
 }
 
 /// Makes variable 0 this number.
 fn write_number(alloc: Global, number: i64) -> Result<Tx, AllocError> {
-    Ok(Tx::Seq(vec![in alloc; Tx::Put { reg: 0, number }, Tx::Write { var: 0, reg: 0 }]?))
+    seq(alloc, &[Node::PutNumber(0, number), Node::WriteValue(0, 0)])
 }
 
 /// The same, checks that it is not negative, and makes it 2.
 fn check_negative(alloc: Global, number: i64) -> Result<Tx, AllocError> {
-    Ok(Tx::Seq(vec![in alloc;
-        Tx::Put { reg: 0, number },
-        Tx::Write { var: 0, reg: 0 },
-        Tx::Check { name: names()[0] },
-        Tx::Put { reg: 0, number: 2 },
-        Tx::Write { var: 0, reg: 0 },
-    ]?))
-}
-
-/// What a plan is settled with by a call.
-fn settled<
-    D: Disk + Drop,
-    N: StoreNaming,
-    T: Invariants + Drop,
-    S: StoredSteps + Drop,
-    R: Clock + Wait,
->(
-    rt: &R,
-    front: &Front<D, N, T, S>,
-    pass: &mut Pass<N>,
-    plan: &Plan,
-    call: Call,
-) -> Result<Settled, Fault>
-    requires steps { FitsSteps (S.arities front.now.steps) plan.now.tree }
-    requires variables { FitsVariables front.now.vars plan.now }
-    requires names { FitsNames N.program.names plan.now.tree }
-    requires shapes { FitsShapes N.program.tests plan.now }
-{
-    match call {
-        Call::AttemptAndSettle => attempt_and_settle(rt, front, pass, plan),
-        Call::TryAtomically => front.try_atomically(rt, pass, plan),
-        Call::Atomically => front.atomically(rt, pass, plan),
-        Call::AtomicallyWithin | Call::AtomicallyWithRoom | Call::CommitDurable => {
-            settled_patiently(rt, front, pass, plan, call)
-        }
-    }
-}
-
-/// The same by one of the three that have a limit, or wait for room or for a flush.
-fn settled_patiently<
-    D: Disk + Drop,
-    N: StoreNaming,
-    T: Invariants + Drop,
-    S: StoredSteps + Drop,
-    R: Clock + Wait,
->(
-    rt: &R,
-    front: &Front<D, N, T, S>,
-    pass: &mut Pass<N>,
-    plan: &Plan,
-    call: Call,
-) -> Result<Settled, Fault>
-    requires steps { FitsSteps (S.arities front.now.steps) plan.now.tree }
-    requires variables { FitsVariables front.now.vars plan.now }
-    requires names { FitsNames N.program.names plan.now.tree }
-    requires shapes { FitsShapes N.program.tests plan.now }
-{
-    match call {
-        Call::AtomicallyWithin => {
-            front.atomically_within(rt, pass, plan, Duration::from_secs(60))
-        }
-        Call::AtomicallyWithRoom => front.atomically_with_room(rt, pass, plan),
-        _ => front.commit_durable(rt, pass, plan),
-    }
-}
-
-fn attempt_and_settle<
-    D: Disk + Drop,
-    N: StoreNaming,
-    T: Invariants + Drop,
-    S: StoredSteps + Drop,
-    R: Clock + Wait,
->(rt: &R, front: &Front<D, N, T, S>, pass: &mut Pass<N>, plan: &Plan) -> Result<Settled, Fault>
-    requires steps { FitsSteps (S.arities front.now.steps) plan.now.tree }
-    requires variables { FitsVariables front.now.vars plan.now }
-    requires names { FitsNames N.program.names plan.now.tree }
-    requires shapes { FitsShapes N.program.tests plan.now }
-{
-    match front.attempt(rt, plan) {
-        Ok(attempt) => front.settle(rt, pass, &attempt),
-        Err(fault) => Err(fault),
-    }
+    let nodes = [
+        Node::PutNumber(0, number),
+        Node::WriteValue(0, 0),
+        Node::CheckName(names()[0]),
+        Node::PutNumber(0, 2),
+        Node::WriteValue(0, 0),
+    ];
+    seq(alloc, &nodes)
 }
 
 /// How it ended, where so many were committed before.
@@ -343,27 +239,6 @@ fn end_where(is_so: bool, end: Ends) -> Ends {
     if is_so { end } else { Ends::Otherwise }
 }
 
-/// How a transaction ends by a call, where so many were committed before.
-fn end_by<
-    D: Disk + Drop,
-    N: StoreNaming,
-    T: Invariants + Drop,
-    S: StoredSteps + Drop,
-    R: Clock + Wait,
->(
-    rt: &R,
-    front: &Front<D, N, T, S>,
-    pass: &mut Pass<N>,
-    tx: Tx,
-    call: Call,
-    committed: u64,
-) -> Result<Ends, Fault> {
-    match front.plan(tx) {
-        Ok(plan) => Ok(end_of(settled(rt, front, pass, &plan, call), committed)),
-        Err(fault) => Err(fault),
-    }
-}
-
 /// The value that is told alone, of variable 0.
 fn first_alone(told: Option<Vec<(u16, i64)>>) -> Option<i64> {
     let values = told?;
@@ -382,67 +257,16 @@ fn told_alone(told: Result<Option<Vec<(u16, i64)>>, Fault>) -> Result<Option<i64
     }
 }
 
-/// The value of variable 0 by which the invariant refuses a plan, where it does.
-fn why<
-    D: Disk + Drop,
-    N: StoreNaming,
-    T: Invariants + Drop,
-    S: StoredSteps + Drop,
-    R: Clock + Wait,
->(rt: &R, front: &Front<D, N, T, S>, pass: &mut Pass<N>, tx: Tx) -> Result<Option<i64>, Fault> {
-    let name = names()[0];
-    match front.plan(tx) {
-        Ok(plan) => told_alone(front.why_refused(rt, pass, &plan, &name)),
-        Err(fault) => Err(fault),
-    }
-}
-
-/// The value of variable 0 by which it refuses an attempt at a plan.
-fn why_attempt<
-    D: Disk + Drop,
-    N: StoreNaming,
-    T: Invariants + Drop,
-    S: StoredSteps + Drop,
-    R: Clock + Wait,
->(rt: &R, front: &Front<D, N, T, S>, pass: &mut Pass<N>, tx: Tx) -> Result<Option<i64>, Fault> {
-    let name = names()[0];
-    match attempt_at(rt, front, tx) {
-        Ok(attempt) => told_alone(front.why_attempt_refused(rt, pass, &attempt, &name)),
-        Err(fault) => Err(fault),
-    }
-}
-
-fn attempt_at<
-    D: Disk + Drop,
-    N: StoreNaming,
-    T: Invariants + Drop,
-    S: StoredSteps + Drop,
-    R: Clock + Wait,
->(rt: &R, front: &Front<D, N, T, S>, tx: Tx) -> Result<Attempt, Fault> {
-    match front.plan(tx) {
-        Ok(plan) => front.attempt(rt, &plan),
-        Err(fault) => Err(fault),
-    }
-}
-
-/// By which value a plan is refused, or an attempt at one.
-fn why_of<
-    D: Disk + Drop,
-    N: StoreNaming,
-    T: Invariants + Drop,
-    S: StoredSteps + Drop,
-    R: Clock + Wait,
->(
+/// The value of variable 0 by which the invariant refuses a plan, or an attempt at one, where it does.
+fn why_of<C: Asks, R: Wait>(
     rt: &R,
-    front: &Front<D, N, T, S>,
-    pass: &mut Pass<N>,
-    tx: Tx,
+    alloc: Global,
+    caller: &mut C,
     asked: Asked,
 ) -> Result<Option<i64>, Fault> {
-    match asked {
-        Asked::ByAttempt(_) => why_attempt(rt, front, pass, tx),
-        _ => why(rt, front, pass, tx),
-    }
+    let tx = asked.tx(alloc)?;
+    let name = names()[0];
+    told_alone(caller.why_refused(rt, tx, asked, &name))
 }
 
 fn must_be(rt: &impl Abort, asked: Asked, had: Option<i64>, want: Option<i64>) {
@@ -454,44 +278,48 @@ fn must_be(rt: &impl Abort, asked: Asked, had: Option<i64>, want: Option<i64>) {
 }
 
 /// Asks why plans are refused, and attempts at some.
-fn ask_why<
-    D: Disk + Drop,
-    N: StoreNaming,
-    T: Invariants + Drop,
-    S: StoredSteps + Drop,
-    R: Abort + Clock + Wait,
->(rt: &R, alloc: Global, front: &Front<D, N, T, S>, pass: &mut Pass<N>) -> Result<(), Fault> {
+fn ask_why<C: Asks, R: Abort + Clock + Wait>(
+    rt: &R,
+    alloc: Global,
+    caller: &mut C,
+) -> Result<(), Fault> {
     for (asked, want) in ASKED {
-        let had = why_of(rt, front, pass, asked.tx(alloc)?, *asked)?;
+        let had = why_of(rt, alloc, caller, *asked)?;
         must_be(rt, *asked, had, *want);
     }
     Ok(())
 }
 
-fn must_end(rt: &impl Abort, (call, task): (Call, Task), had: Ends, want: Ends) {
-    assert!(rt; had == want, "{task:?} by {call:?} ends so: {had:?}");
+fn must_end(rt: &impl Abort, number: usize, call: Call, had: Ends, want: Ends) {
+    assert!(rt; had == want, "row {number} ends by {call:?} so: {had:?}");
+}
+
+/// How a transaction ends by a call, where so many were committed before.
+fn end_by<C: Asks, R: Clock + Wait>(
+    rt: &R,
+    alloc: Global,
+    caller: &mut C,
+    (call, task): (Call, Task),
+    committed: u64,
+) -> Result<Ends, Fault> {
+    let tx = task.tx(alloc)?;
+    let settled = caller.settle_by(rt, tx, call, Duration::from_secs(60));
+    Ok(end_of(settled, committed))
 }
 
 /// Plays a row, and answers how many are committed then.
-fn play_row<
-    D: Disk + Drop,
-    N: StoreNaming,
-    T: Invariants + Drop,
-    S: StoredSteps + Drop,
-    R: Abort + Clock + Wait,
->(
+fn play_row<C: Asks, R: Abort + Clock + Wait>(
     rt: &R,
     alloc: Global,
-    front: &Front<D, N, T, S>,
-    pass: &mut Pass<N>,
-    row: &Row,
+    caller: &mut C,
+    (number, row): (usize, &Row),
     mut committed: u64,
 ) -> Result<u64, Fault> {
     let (calls, task, times, want) = *row;
     for call in calls {
         for _ in 0..times {
-            let had = end_by(rt, front, pass, task.tx(alloc)?, *call, committed)?;
-            must_end(rt, (*call, task), had, want);
+            let had = end_by(rt, alloc, caller, (*call, task), committed)?;
+            must_end(rt, number, *call, had, want);
             committed = committed.wrapping_add(u64::from(had == Ends::Commits));
         }
     }
@@ -499,19 +327,18 @@ fn play_row<
 }
 
 /// Plays the rows, and asks.
-fn play<
-    D: Disk + Drop,
-    N: StoreNaming,
-    T: Invariants + Drop,
-    S: StoredSteps + Drop,
-    R: Abort + Clock + Wait,
->(rt: &R, alloc: Global, front: &Front<D, N, T, S>, pass: &mut Pass<N>) -> Result<(), Fault> {
+fn play<C: Asks, R: Abort + Clock + Wait>(
+    rt: &R,
+    alloc: Global,
+    caller: &mut C,
+) -> Result<(), Fault> {
+    caller.take_pass(rt)?;
     let mut committed = 0u64;
-    for row in ROWS {
-        committed = play_row(rt, alloc, front, pass, row, committed)?;
+    for row in ROWS.iter().enumerate() {
+        committed = play_row(rt, alloc, caller, row, committed)?;
     }
     assert!(rt; committed == 256);
-    ask_why(rt, alloc, front, pass)
+    ask_why(rt, alloc, caller)
 }
 
 /// Plays them in a store that was opened.
@@ -530,8 +357,7 @@ fn play_opened<
     requires steps { S.is_stated (front_steps opened) checked_program.steps }
 {
     let front = opened.named::<N>();
-    let mut pass = front.pass(rt)?;
-    play(rt, alloc, &front, &mut pass)
+    play(rt, alloc, &mut Caller::new(&front))
 }
 
 /// Plays them in a new store of 1024 variables and 64 slots.

@@ -2,6 +2,7 @@
 ghost use Rattle.std.specs.Prelude.{◌≡◌};
 
 use super::no_closures::always;
+use super::nodes::{Node, before, behind, or_else, seq, when};
 use std::alloc::{AllocError, Global};
 use tmem_core::Settled;
 use tmem_fault::Fault;
@@ -213,178 +214,132 @@ impl Task {
     /// What a plan is made of.
     pub(super) fn tx(&self, alloc: Global) -> Result<Tx, AllocError> {
         match *self {
-            Task::Write(var, number) => write(alloc, var, number),
-            Task::Copy => copy(alloc),
-            Task::WriteBoth(var, other, number) => write_both(alloc, var, other, number),
+            Task::Write(var, number) => seq(alloc, &write_nodes(var, number)),
+            Task::Copy => seq(alloc, &[Node::ReadValue(0, 0), Node::WriteValue(1, 0)]),
+            Task::WriteBoth(var, other, number) => {
+                both(
+                    alloc,
+                    &write_nodes(var, number),
+                    &write_nodes(other, number),
+                )
+            }
             Task::WaitForEither(var, other) => wait_for_either(alloc, var, other),
             Task::Never => Ok(Tx::Retry),
-            Task::Choose => choose(alloc),
+            Task::Choose => nested_choices(alloc),
             Task::Abort(code) => Ok(Tx::Abort { code }),
-            Task::WriteEach(number) => write_each(alloc, number),
-            Task::Register => Ok(check()),
+            Task::WriteEach(number) => {
+                seq(alloc, &[Node::PutNumber(0, number), Node::WriteEachOf(64)])
+            }
+            Task::Register => Ok(Tx::Check { name: always() }),
             Task::ReadAndRegister => read_and_register(alloc),
-            Task::Retire => Ok(retire()),
-            Task::WriteAndRetire(var, number) => both(alloc, write(alloc, var, number)?, retire()),
-            Task::AddOne => long(alloc, add_one(alloc)),
-            Task::NeedOne => long(alloc, need_one(alloc, 2)),
-            Task::NeedEither(var, other) => long(alloc, need_either(alloc, var, other)),
+            Task::Retire => Ok(Tx::Retire { name: always() }),
+            Task::WriteAndRetire(var, number) => write_and_retire(alloc, var, number),
+            Task::AddOne => long(alloc, seq(alloc, &add_nodes(0))),
+            Task::NeedOne => long(alloc, seq(alloc, &need_nodes(2, 1))),
+            Task::NeedEither(var, other) => {
+                long(
+                    alloc,
+                    either(alloc, &need_nodes(var, 1), &need_nodes(other, 1)),
+                )
+            }
             Task::NeedLast(var) => long(alloc, need_last(alloc, var)),
-            Task::AddBehind(var, least, other) => long(alloc, add_behind(alloc, var, least, other)),
-            Task::AddOnceThereIsOne => long(
-                alloc,
-                both(alloc, add_one(alloc)?, need_one(alloc, 2)?),
-            ),
-            Task::AddAndRegister => long(alloc, both(alloc, add_one(alloc)?, check())),
+            Task::AddBehind(var, least, other) => {
+                long(
+                    alloc,
+                    both(alloc, &need_nodes(var, least), &add_nodes(other)),
+                )
+            }
+            Task::AddOnceThereIsOne => long(alloc, both(alloc, &add_nodes(0), &need_nodes(2, 1))),
+            Task::AddAndRegister => long(alloc, add_and_register(alloc)),
         }
     }
 }
 
 // With 64 nodes behind it that do nothing: no short plan.
 fn long(alloc: Global, tx: Result<Tx, AllocError>) -> Result<Tx, AllocError> {
-    let mut txs = vec![in alloc; tx?]?;
-    for _ in 0..MAX_SHORT {
-        txs.push(Tx::Skip)?;
-    }
-    Ok(Tx::Seq(txs))
+    behind(alloc, tx, &[Node::DoNothing(MAX_SHORT)])
 }
 
 // One behind the other.
-fn both(alloc: Global, first: Tx, second: Tx) -> Result<Tx, AllocError> {
-    Ok(Tx::Seq(vec![in alloc; first, second]?))
+fn both(alloc: Global, first: &[Node], second: &[Node]) -> Result<Tx, AllocError> {
+    let mut txs = Vec::new(alloc);
+    txs.push(seq(alloc, first)?)?;
+    txs.push(seq(alloc, second)?)?;
+    Ok(Tx::Seq(txs))
 }
 
 // The second where the first retries.
-fn either(alloc: Global, first: Tx, second: Tx) -> Result<Tx, AllocError> {
-    Ok(Tx::OrElse(Box::new(alloc, first)?, Box::new(alloc, second)?))
+fn either(alloc: Global, first: &[Node], second: &[Node]) -> Result<Tx, AllocError> {
+    or_else(alloc, seq(alloc, first)?, seq(alloc, second)?)
 }
 
-fn check() -> Tx {
-    Tx::Check { name: always() }
+fn write_nodes(var: u16, number: i64) -> [Node; 2] {
+    [Node::PutNumber(0, number), Node::WriteValue(var, 0)]
 }
 
-fn retire() -> Tx {
-    Tx::Retire { name: always() }
+fn add_nodes(var: u16) -> [Node; 4] {
+    [
+        Node::ReadValue(var, 0),
+        Node::PutNumber(1, 1),
+        Node::CallStep(0, [0, 1], 0),
+        Node::WriteValue(var, 0),
+    ]
 }
 
-fn write(alloc: Global, var: u16, number: i64) -> Result<Tx, AllocError> {
-    both(alloc, Tx::Put { reg: 0, number }, Tx::Write { var, reg: 0 })
-}
-
-fn copy(alloc: Global) -> Result<Tx, AllocError> {
-    both(
-        alloc,
-        Tx::Read { var: 0, reg: 0 },
-        Tx::Write { var: 1, reg: 0 },
-    )
-}
-
-fn add_one(alloc: Global) -> Result<Tx, AllocError> {
-    add_to(alloc, 0)
-}
-
-fn add_to(alloc: Global, var: u16) -> Result<Tx, AllocError> {
-    let args = vec![in alloc; 0, 1]?;
-    let step = Tx::Step {
-        index: 0,
-        args,
-        out: 0,
-    };
-    Ok(Tx::Seq(vec![in alloc;
-        Tx::Read { var, reg: 0 },
-        Tx::Put { reg: 1, number: 1 },
-        step,
-        Tx::Write { var, reg: 0 },
-    ]?))
-}
-
-fn add_behind(alloc: Global, var: u16, least: i64, other: u16) -> Result<Tx, AllocError> {
-    both(alloc, need(alloc, var, least)?, add_to(alloc, other)?)
+fn need_nodes(var: u16, least: i64) -> [Node; 3] {
+    [
+        Node::ReadValue(var, 0),
+        Node::PutNumber(1, least),
+        Node::CallStep(1, [0, 1], 2),
+    ]
 }
 
 fn read_and_register(alloc: Global) -> Result<Tx, AllocError> {
-    let step = Tx::Step {
-        index: 0,
-        args: vec![in alloc; 0, 0]?,
-        out: 1,
-    };
-    let mut txs = vec![in alloc; Tx::Read { var: 0, reg: 0 }, step]?;
-    for var in 3..511 {
-        txs.push(Tx::Read { var, reg: 3 })?;
-    }
-    txs.push(check())?;
-    Ok(Tx::Seq(txs))
+    let nodes = [
+        Node::ReadValue(0, 0),
+        Node::CallStep(0, [0, 0], 1),
+        Node::ReadEach(3, 511, 3),
+        Node::CheckName(always()),
+    ];
+    seq(alloc, &nodes)
 }
 
-fn need_last(alloc: Global, last: u16) -> Result<Tx, AllocError> {
-    let mut txs = Vec::new(alloc);
-    for var in 0..last {
-        txs.push(Tx::Read { var, reg: 3 })?;
-    }
-    txs.push(need_one(alloc, last)?)?;
-    Ok(Tx::Seq(txs))
+fn write_and_retire(alloc: Global, var: u16, number: i64) -> Result<Tx, AllocError> {
+    let written = seq(alloc, &write_nodes(var, number));
+    behind(alloc, written, &[Node::RetireName(always())])
 }
 
-fn write_each(alloc: Global, number: i64) -> Result<Tx, AllocError> {
-    let mut txs = vec![in alloc; Tx::Put { reg: 0, number }]?;
-    for var in 0..64 {
-        txs.push(Tx::Write { var, reg: 0 })?;
-    }
-    Ok(Tx::Seq(txs))
-}
-
-fn write_both(alloc: Global, var: u16, other: u16, number: i64) -> Result<Tx, AllocError> {
-    both(
+fn add_and_register(alloc: Global) -> Result<Tx, AllocError> {
+    behind(
         alloc,
-        write(alloc, var, number)?,
-        write(alloc, other, number)?,
+        seq(alloc, &add_nodes(0)),
+        &[Node::CheckName(always())],
     )
 }
 
-fn need_either(alloc: Global, var: u16, other: u16) -> Result<Tx, AllocError> {
-    either(alloc, need_one(alloc, var)?, need_one(alloc, other)?)
+fn need_last(alloc: Global, last: u16) -> Result<Tx, AllocError> {
+    before(
+        alloc,
+        &[Node::ReadEach(0, last, 3)],
+        seq(alloc, &need_nodes(last, 1)),
+    )
 }
 
-fn choose(alloc: Global) -> Result<Tx, AllocError> {
+fn nested_choices(alloc: Global) -> Result<Tx, AllocError> {
     let mut tx = Tx::Retry;
     for _ in 0..30 {
-        tx = either(alloc, tx, Tx::Retry)?;
+        tx = or_else(alloc, tx, Tx::Retry)?;
     }
-    either(alloc, tx, write(alloc, 0, 1)?)
+    or_else(alloc, tx, seq(alloc, &write_nodes(0, 1))?)
 }
 
 fn wait_for_either(alloc: Global, var: u16, other: u16) -> Result<Tx, AllocError> {
-    either(alloc, wait_for(alloc, var)?, wait_for(alloc, other)?)
+    or_else(alloc, wait_for(alloc, var)?, wait_for(alloc, other)?)
 }
 
 fn wait_for(alloc: Global, var: u16) -> Result<Tx, AllocError> {
-    let (then, other) = (Box::new(alloc, Tx::Skip)?, Box::new(alloc, Tx::Retry)?);
-    let when = Tx::When {
-        reg: 0,
-        then,
-        other,
-    };
-    both(alloc, Tx::Read { var, reg: 0 }, when)
-}
-
-fn need_one(alloc: Global, var: u16) -> Result<Tx, AllocError> {
-    need(alloc, var, 1)
-}
-
-fn need(alloc: Global, var: u16, least: i64) -> Result<Tx, AllocError> {
-    let args = vec![in alloc; 0, 1]?;
-    let step = Tx::Step {
-        index: 1,
-        args,
-        out: 2,
-    };
-    Ok(Tx::Seq(vec![in alloc;
-        Tx::Read { var, reg: 0 },
-        Tx::Put {
-            reg: 1,
-            number: least,
-        },
-        step,
-    ]?))
+    let waits = when(alloc, 0, Tx::Skip, Tx::Retry);
+    before(alloc, &[Node::ReadValue(var, 0)], waits)
 }
 
 impl Answer {
@@ -424,6 +379,14 @@ impl Answer {
         match ended {
             Ok(()) => Answer::Done,
             Err(fault) => Answer::refused(fault),
+        }
+    }
+
+    /// The answer to a call that asks for a fault.
+    pub(super) fn fault(fault: Option<Fault>) -> Answer {
+        match fault {
+            Some(fault) => Answer::refused(fault),
+            None => Answer::Nothing,
         }
     }
 

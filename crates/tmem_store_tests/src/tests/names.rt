@@ -1,21 +1,30 @@
 //! Invariants by number: their names, which stand in its order, and worlds that register all 64, and retire them.
-ghost use Rattle.std.specs.Prelude.{◌<◌, length};
+ghost use Rattle.std.specs.Prelude.{◌≡◌, ◌<◌, length, IfOk};
 ghost use Rattle.tmem_invariants.specs.Answers.{MayCall, HasMeaning};
 
-use super::worlds::{commit, committed};
+use super::worlds::{Played, commit, committed};
 use std::alloc::Global;
 use std::process::Abort;
-use tmem_disk::SimDisk;
 use tmem_fault::{Fault, Name};
-use tmem_invariants::Invariants;
 use tmem_tables::{Invariant, Test};
-use tmem_tree::{StoredSteps, Tx};
-use tmem_world::World;
+use tmem_tree::Tx;
 
 /// A name for each number, ascending.
 pub(super) fn numbered(n: u8) -> Result<Name, Fault> {
     let letters = [b'a' + n / 26, b'a' + n % 26];
     Name::new(std::str::from_utf8(&letters).unwrap_or(""))
+}
+
+/// The footprint of the invariant of a number: the sixteen variables behind those of lesser numbers.
+pub(super) fn variables_of(alloc: Global, number: u8) -> Result<Vec<u16>, Fault>
+    ensures { IfOk result (λ vars. length vars.items ≡ 16) }
+{
+    let first = 16 * u16::from(number);
+    let mut vars = Vec::new(alloc);
+    for k in 0..16u16 {
+        vars.push(first + k)?;
+    }
+    Ok(vars)
 }
 
 /// Puts the invariant of a number behind others.
@@ -61,9 +70,9 @@ fn eight(alloc: Global, from: u8, each: Use) -> Result<Tx, Fault>
 }
 
 /// Whether the transaction for the names from 8 times this number on commits, that many behind the first.
-fn commits_eight<T: Invariants + Drop, S: StoredSteps + Drop>(
+fn commits_eight<W: Played>(
     alloc: Global,
-    world: &mut World<SimDisk, T, S>,
+    world: &mut W,
     first: u64,
     number: u8,
     each: Use,
@@ -76,22 +85,14 @@ fn commits_eight<T: Invariants + Drop, S: StoredSteps + Drop>(
 }
 
 /// Whether there is a session, with 64 names.
-pub(super) fn has_all<T: Invariants + Drop, S: StoredSteps + Drop>(
-    world: &World<SimDisk, T, S>,
-) -> Result<bool, Fault> {
+pub(super) fn has_all<W: Played>(world: &W) -> Result<bool, Fault> {
     are_registered(world, true)
 }
 
 /// Whether there is a session, and each of the 64 names is registered, or else none.
-fn are_registered<T: Invariants + Drop, S: StoredSteps + Drop>(
-    world: &World<SimDisk, T, S>,
-    wanted: bool,
-) -> Result<bool, Fault> {
-    if !world.is_open() {
-        return Ok(false);
-    }
+fn are_registered<W: Played>(world: &W, wanted: bool) -> Result<bool, Fault> {
     for n in 0..64 {
-        if world.has(&numbered(n)?) != wanted {
+        if world.knows(&numbered(n)?) != Some(wanted) {
             return Ok(false);
         }
     }
@@ -99,17 +100,15 @@ fn are_registered<T: Invariants + Drop, S: StoredSteps + Drop>(
 }
 
 /// Whether there is a session, with no name.
-pub(super) fn has_none<T: Invariants + Drop, S: StoredSteps + Drop>(
-    world: &World<SimDisk, T, S>,
-) -> Result<bool, Fault> {
+pub(super) fn has_none<W: Played>(world: &W) -> Result<bool, Fault> {
     are_registered(world, false)
 }
 
 /// Registers, or retires, 64 names, 8 in a transaction. The first transaction gets this number.
-pub(super) fn commit_all<T: Invariants + Drop, S: StoredSteps + Drop>(
+pub(super) fn commit_all<W: Played>(
     rt: &impl Abort,
     alloc: Global,
-    world: &mut World<SimDisk, T, S>,
+    world: &mut W,
     first: u64,
     each: Use,
 ) -> Result<(), Fault> {

@@ -1,14 +1,16 @@
 //! Scenes: in each a new store, and what one thread does with it, then several at once, and then that one again.
-ghost use Rattle.std.specs.Prelude.{◌≡◌};
-ghost use Rattle.tmem_front.specs.Held.{front_found, spine_of};
-ghost use Rattle.tmem_store_tests.specs.Examples.{adding};
+ghost use Rattle.std.specs.Prelude.{◌≡◌, ◌<◌, length, IfOk};
+ghost use Rattle.tmem_front.specs.Held.{front_found, spine_of, front_steps, front_table};
 
 use super::moves::{Answer, Move};
 use super::no_closures::{AddsAndNeeds, AlwaysTrue};
+use super::playing::answer;
 use super::signals::Signals;
+use super::stage::Stage;
 use super::stage_disk::StageDisk;
-use super::store::{Hands, Stage, Store};
-use std::alloc::Global;
+use super::store::{Caller, Calls, Settles};
+use super::worlds::formatted;
+use std::alloc::{AllocError, Global};
 use std::marker::Brand;
 use std::process::Abort;
 use std::rt::Clock;
@@ -20,7 +22,6 @@ use tmem_disk::{Disk, SimDisk};
 use tmem_fault::Fault;
 use tmem_front::{Front, OpenedFront, StoreNaming};
 use tmem_invariants::Invariants;
-use tmem_journal::{Layout, format};
 use tmem_tree::StoredSteps;
 
 /// Where the generation of the first image stands.
@@ -66,7 +67,7 @@ pub(super) enum Line<'a> {
 }
 
 /// A part of a scene.
-#[derive(Clone, Copy, Debug, PartialEq)]
+#[derive(Clone, Copy)]
 pub(super) enum Part {
     Before,
     Thread(usize),
@@ -103,9 +104,9 @@ enum Failing {
 
 /// The device of a new store.
 #[derive(Clone, Copy)]
-struct Device {
-    vars: u16,
-    slots: u16,
+pub(super) struct Device {
+    pub(super) vars: u16,
+    pub(super) slots: u16,
     failing: Failing,
     sync_millis: u64,
     has_last_image: bool,
@@ -133,8 +134,8 @@ fn readings_of(lines: &[Line]) -> u64 {
     readings
 }
 
-// What lines say of the device.
-fn device_of(lines: &[Line]) -> Device {
+/// What lines say of the device.
+pub(super) fn device_of(lines: &[Line]) -> Device {
     let mut device = Device {
         vars: 100,
         slots: 4,
@@ -161,12 +162,8 @@ fn device_of(lines: &[Line]) -> Device {
 pub(super) enum Wrong {
     /// No store was made, or no pass given out.
     NotBegun(Fault),
-    /// A part was answered like this at the line of this number, counted from the scene's own.
-    Answered {
-        part: Part,
-        line: usize,
-        answer: Answer,
-    },
+    /// A thread was answered like this at the line of this number, counted from the scene's own.
+    Answered { line: usize, answer: Answer },
     /// The others did not begin in time, or did not end.
     Late,
     /// The device was called while it was taken out.
@@ -186,18 +183,28 @@ const CROWD: usize = 64;
 
 // Whether a part does anything.
 fn has_part(lines: &[Line], part: Part) -> bool {
-    lines.iter().any(|line| line.row(part).is_some())
+    for line in lines {
+        if line.row(part).is_some() {
+            return true;
+        }
+    }
+    false
 }
 
 // How many threads begin with a pass of their own.
 fn beginners_of(lines: &[Line]) -> u64 {
-    let begins = |thread: &usize| has_part(lines, Part::Thread(*thread));
-    (0..EIGHT).filter(begins).count() as u64
+    let mut beginners = 0u64;
+    for thread in 0..EIGHT {
+        if has_part(lines, Part::Thread(thread)) {
+            beginners = beginners.saturating_add(1);
+        }
+    }
+    beginners
 }
 
 // How many threads a scene has.
 fn threads_of(lines: &[Line]) -> usize {
-    if lines.iter().any(|line| matches!(line, Line::Crowd(_, _))) {
+    if has_part(lines, Part::Crowd) {
         EIGHT + CROWD
     } else {
         EIGHT
@@ -206,113 +213,113 @@ fn threads_of(lines: &[Line]) -> usize {
 
 /// What is played on a store. The functions that start threads know no more of it.
 trait Plays {
-    /// Plays what a thread does, and answers what went wrong first.
-    fn play<R: Clock + Wait>(&self, stage: &Stage<R>, thread: usize) -> Option<Wrong>;
+    /// Plays a part with hands of its own, if it does anything, and answers what went wrong first.
+    fn play_part<R: Clock + Wait>(&self, stage: &Stage<R>, part: Part) -> Option<Wrong>;
+
+    /// Shuts the store.
+    fn shut_down<R: Wait>(&self, stage: &Stage<R>);
 }
 
 impl<D: Disk + Drop, N: StoreNaming, T: Invariants + Drop, S: StoredSteps + Drop> Plays
     for Front<D, N, T, S> {
-    fn play<R: Clock + Wait>(&self, stage: &Stage<R>, thread: usize) -> Option<Wrong> {
-        let store = Store { front: self };
-        let part = if thread < EIGHT {
-            Part::Thread(thread)
-        } else {
-            Part::Crowd
-        };
-        let wrong = store.play_alone(stage, part);
-        stage.signals.count_end();
-        if thread == LAST && !store.ends_others(stage) {
-            return wrong.or(Some(Wrong::Late));
-        }
-        wrong
+    fn play_part<R: Clock + Wait>(&self, stage: &Stage<R>, part: Part) -> Option<Wrong> {
+        play_alone(stage, &mut Caller::new(self), part)
+    }
+
+    fn shut_down<R: Wait>(&self, stage: &Stage<R>) {
+        self.shut(stage.rt);
     }
 }
 
-impl<D: Disk + Drop, N: StoreNaming, T: Invariants + Drop, S: StoredSteps + Drop> Store<
-    '_,
-    D,
-    N,
-    T,
-    S,
-> {
-    // Plays a part with hands of its own, if it does anything.
-    fn play_alone<R: Clock + Wait>(&self, stage: &Stage<R>, part: Part) -> Option<Wrong> {
-        if !has_part(stage.lines, part) {
-            return None;
-        }
-        self.play_from(stage, &mut Hands::new(), part)
+// Plays a part, if it does anything. But for the crowd it takes a pass, and begins once all others have theirs: else the first thread
+// could take the last pass.
+fn play_alone<C: Calls, R: Clock + Wait>(
+    stage: &Stage<R>,
+    caller: &mut C,
+    part: Part,
+) -> Option<Wrong> {
+    if !has_part(stage.lines, part) {
+        return None;
     }
+    if !matches!(part, Part::Crowd) {
+        let taken = caller.take_pass(stage.rt);
+        let is_in_time = stage
+            .signals
+            .begin_together(stage.rt, beginners_of(stage.lines));
+        if let Err(fault) = taken {
+            return Some(Wrong::NotBegun(fault));
+        }
+        if !is_in_time {
+            return Some(Wrong::Late);
+        }
+    }
+    play_lines(stage, caller, part)
+}
 
-    // Takes a pass (the crowd takes none), and plays a part once all others have theirs: else the first thread could take the last pass.
-    fn play_from<R: Clock + Wait>(
-        &self,
-        stage: &Stage<R>,
-        hands: &mut Hands<N>,
-        part: Part,
-    ) -> Option<Wrong> {
-        if part != Part::Crowd {
-            let taken = self.take_pass(stage, &mut hands.pass);
-            let beginners = beginners_of(stage.lines);
-            let is_in_time = stage.signals.begin_together(stage.rt, beginners);
-            if let Err(fault) = taken {
-                return Some(Wrong::NotBegun(fault));
-            }
-            if !is_in_time {
-                return Some(Wrong::Late);
-            }
+// Plays all lines of a part, also after a wrong answer, and answers the first one.
+fn play_lines<C: Calls, R: Clock + Wait>(
+    stage: &Stage<R>,
+    caller: &mut C,
+    part: Part,
+) -> Option<Wrong> {
+    let mut wrong = None;
+    for (index, line) in stage.lines.iter().enumerate() {
+        if let Some(other) = other_at(stage, caller, part, index, line) {
+            wrong = wrong.or(Some(other));
         }
-        self.play_lines(stage, hands, part)
     }
+    wrong
+}
 
-    // Plays all lines of a part, also after a wrong answer, and answers the first one.
-    fn play_lines<R: Clock + Wait>(
-        &self,
-        stage: &Stage<R>,
-        hands: &mut Hands<N>,
-        part: Part,
-    ) -> Option<Wrong> {
-        let mut wrong = None;
-        for (index, line) in stage.lines.iter().enumerate() {
-            if let Some(other) = self.other_at(stage, hands, part, index, line) {
-                wrong = wrong.or(Some(other));
-            }
-        }
-        wrong
+// Plays a line, if it is of this part, and answers what went wrong.
+fn other_at<C: Calls, R: Clock + Wait>(
+    stage: &Stage<R>,
+    caller: &mut C,
+    part: Part,
+    index: usize,
+    line: &Line,
+) -> Option<Wrong> {
+    let (step, want) = line.row(part)?;
+    let had = answer(stage, caller, step);
+    if had == want {
+        return None;
     }
+    Some(Wrong::Answered {
+        line: index,
+        answer: had,
+    })
+}
 
-    // Plays a line, if it is of this part, and answers what went wrong.
-    fn other_at<R: Clock + Wait>(
-        &self,
-        stage: &Stage<R>,
-        hands: &mut Hands<N>,
-        part: Part,
-        index: usize,
-        line: &Line,
-    ) -> Option<Wrong> {
-        let (step, want) = line.row(part)?;
-        let answer = self.answer(stage, hands, step);
-        if answer == want {
-            return None;
-        }
-        Some(Wrong::Answered {
-            part,
-            line: index,
-            answer,
-        })
+// Plays what a thread does. The last one waits for the others then.
+fn play_thread<F: Plays, R: Clock + Wait>(
+    stage: &Stage<R>,
+    store: &F,
+    thread: usize,
+) -> Option<Wrong> {
+    let part = if thread < EIGHT {
+        Part::Thread(thread)
+    } else {
+        Part::Crowd
+    };
+    let wrong = store.play_part(stage, part);
+    stage.signals.count_end();
+    if thread == LAST && !ends_others(stage, store) {
+        return wrong.or(Some(Wrong::Late));
     }
+    wrong
+}
 
-    // Waits until all threads have ended. Where they have not in time, shuts the front for each that still waits.
-    fn ends_others<R: Clock + Wait>(&self, stage: &Stage<R>) -> bool {
-        let threads = threads_of(stage.lines) as u64;
-        if stage.signals.await_ends(stage.rt, threads) {
-            return true;
-        }
-        for _ in 0..MOST_SHUTS {
-            self.shut(stage);
-            thread::sleep(stage.rt, Duration::from_millis(10));
-        }
-        false
+// Waits until all threads have ended. Where they have not in time, shuts the front for each that still waits.
+fn ends_others<F: Plays, R: Clock + Wait>(stage: &Stage<R>, store: &F) -> bool {
+    let threads = threads_of(stage.lines) as u64;
+    if stage.signals.await_ends(stage.rt, threads) {
+        return true;
     }
+    for _ in 0..MOST_SHUTS {
+        store.shut_down(stage);
+        thread::sleep(stage.rt, Duration::from_millis(10));
+    }
+    false
 }
 
 // Each thread of a scene. Answers what went wrong first.
@@ -321,58 +328,44 @@ fn play_all<F: Plays + Sync, R: Clock + Threads + Wait + Sync>(
     store: &F,
 ) -> Option<Wrong> {
     let threads = threads_of(stage.lines);
-    match map_indices(
-        stage.rt,
-        stage.alloc,
-        threads,
-        &|thread| store.play(stage, thread),
-    ) {
+    let play = |thread: usize| play_thread(stage, store, thread);
+    match map_indices(stage.rt, stage.alloc, threads, &play) {
         Ok(ended) => ended.into_iter().flatten().next(),
         Err(_) => Some(Wrong::NotBegun(Fault::Memory)),
     }
 }
 
-// A scene in a store, with the hands that begin it and end it.
-fn play_whole_scene<
-    D: Disk + Drop + Send,
-    N: StoreNaming + Send + Sync,
-    T: Invariants + Drop + Send,
-    S: StoredSteps + Drop + Send + Sync,
-    R: Clock + Threads + Wait + Sync,
->(stage: &Stage<R>, front: &Front<D, N, T, S>, hands: &mut Hands<N>) -> Option<Wrong> {
-    let store = Store { front };
-    if let Err(fault) = store.take_pass(stage, &mut hands.pass) {
+// A scene in a store, with the caller that begins it and ends it.
+fn play_whole_scene<F: Plays + Sync, C: Calls, R: Clock + Threads + Wait + Sync>(
+    stage: &Stage<R>,
+    store: &F,
+    caller: &mut C,
+) -> Option<Wrong> {
+    if let Err(fault) = caller.take_pass(stage.rt) {
         return Some(Wrong::NotBegun(fault));
     }
-    let before = store.play_lines(stage, hands, Part::Before);
-    let threads = play_all(stage, front);
-    let after = store.play_lines(stage, hands, Part::After);
+    let before = play_lines(stage, caller, Part::Before);
+    let threads = play_all(stage, store);
+    let after = play_lines(stage, caller, Part::After);
     before.or(threads).or(after)
 }
 
-/// A scene in a store. Answers what went wrong first.
-pub(super) fn play_on<
+// A scene in a store. Answers what went wrong first.
+fn play_on<
     D: Disk + Drop + Send,
     N: StoreNaming + Send + Sync,
     T: Invariants + Drop + Send,
     S: StoredSteps + Drop + Send + Sync,
     R: Clock + Threads + Wait + Sync,
 >(stage: &Stage<R>, front: &Front<D, N, T, S>) -> Option<Wrong> {
-    play_whole_scene(stage, front, &mut Hands::new())
+    play_whole_scene(stage, front, &mut Caller::new(front))
 }
-
-/// A store on a device that waits and fails as a scene wants it.
-type Opened<'a, R> = OpenedFront<StageDisk<'a, SimDisk, R>, AlwaysTrue, AddsAndNeeds<'a>>;
 
 // A new device that fails as it is to.
 fn new_disk(alloc: Global, device: Device) -> Result<SimDisk, Fault> {
-    let mut disk = SimDisk::new(alloc, Layout::new(device.vars, device.slots)?.end())?;
-    format(&mut disk, device.vars, device.slots)?;
-    if device.has_last_image && disk.size() >= GENERATION + 8 {
-        let written = disk.write_at(GENERATION, &u64::MAX.to_le_bytes());
-        if written.is_err() {
-            return Err(Fault::Device);
-        }
+    let mut disk = formatted(alloc, device.vars, device.slots)?;
+    if device.has_last_image && !writes_last_image(&mut disk) {
+        return Err(Fault::Device);
     }
     match device.failing {
         Failing::Never => {}
@@ -382,33 +375,55 @@ fn new_disk(alloc: Global, device: Device) -> Result<SimDisk, Fault> {
     Ok(disk)
 }
 
-// A new store.
-fn open<'a, R: Clock>(stage: &Stage<'a, R>, device: Device) -> Result<Opened<'a, R>, Fault> {
-    let disk = StageDisk {
+// Makes the image one of the last generation, where it has a place for that.
+fn writes_last_image(disk: &mut SimDisk) -> bool {
+    disk.size() < GENERATION + 8 || disk.write_at(GENERATION, &u64::MAX.to_le_bytes()).is_ok()
+}
+
+/// Such a device.
+pub(super) fn stage_disk<'a, R: Clock>(
+    stage: &Stage<'a, R>,
+    device: Device,
+) -> Result<StageDisk<'a, SimDisk, R>, Fault> {
+    Ok(StageDisk {
         inner: new_disk(stage.alloc, device)?,
         rt: stage.rt,
         signals: stage.signals,
         sync_millis: device.sync_millis,
-    };
-    let vars = device.vars;
-    let table = AlwaysTrue { vars };
-    let steps = AddsAndNeeds {
-        signals: stage.signals,
-    };
-    match OpenedFront::open(stage.alloc, disk, vars, device.slots, table, steps) {
+    })
+}
+
+/// A store on a device of these numbers, which is gone where it is refused.
+pub(super) fn open<D: Disk + Drop, T: Invariants + Drop, S: StoredSteps + Drop>(
+    alloc: Global,
+    disk: D,
+    device: Device,
+    table: T,
+    steps: S,
+) -> Result<OpenedFront<D, T, S>, Fault>
+    requires { T.vars table ≡ device.vars }
+    ensures table { IfOk result (λ opened. front_table opened ≡ table) }
+    ensures steps { IfOk result (λ opened. front_steps opened ≡ steps) }
+{
+    match OpenedFront::open(alloc, disk, device.vars, device.slots, table, steps) {
         Ok(opened) => Ok(opened),
-        Err(refusal) => Err(refusal.0),
+        Err((fault, _disk)) => Err(fault),
     }
 }
 
-// A scene in a store under its name, out of which its device is taken at the end.
-fn play_named<N: StoreNaming + Send + Sync, R: Clock + Threads + Wait + Sync>(
-    stage: &Stage<R>,
-    opened: Opened<R>,
-) -> Option<Wrong>
+/// A scene in a store under its name, out of which its device is taken at the end.
+pub(super) fn play_named<
+    D: Disk + Drop + Send,
+    N: StoreNaming + Send + Sync,
+    T: Invariants + Drop + Send,
+    S: StoredSteps + Drop + Send + Sync,
+    R: Clock + Threads + Wait + Sync,
+>(stage: &Stage<R>, opened: OpenedFront<D, T, S>) -> Option<Wrong>
     requires spine { spine_of opened ≡ N.name }
     requires opening { front_found opened ≡ N.opening }
-    requires program { N.program ≡ adding }
+    requires steps { S.is_stated (front_steps opened) N.program.steps }
+    requires names { T.names (front_table opened) ≡ N.program.names }
+    requires stated { T.is_stated (front_table opened) N.program.tests }
 {
     let front = opened.named::<N>();
     let wrong = play_on(stage, &front);
@@ -420,7 +435,23 @@ fn play_named<N: StoreNaming + Send + Sync, R: Clock + Threads + Wait + Sync>(
     wrong
 }
 
-// A scene, of whose lines the first one names it, in a new store.
+// A scene in a new store.
+fn play_on_stage<R: Clock + Threads + Wait + Sync>(
+    stage: &Stage<R>,
+) -> Result<Option<Wrong>, Fault> {
+    let device = device_of(stage.lines);
+    let disk = stage_disk(stage, device)?;
+    let table = AlwaysTrue { vars: device.vars };
+    let steps = AddsAndNeeds {
+        signals: stage.signals,
+    };
+    match open(stage.alloc, disk, device, table, steps) {
+        Ok(opened) => Ok(play_named::<_, Brand, _, _, _>(stage, opened)),
+        Err(fault) => Err(fault),
+    }
+}
+
+// A scene, of whose lines the first one names it, on a stage of its own.
 fn play_scene<R: Clock + Threads + Wait + Sync>(
     rt: &R,
     alloc: Global,
@@ -435,35 +466,57 @@ fn play_scene<R: Clock + Threads + Wait + Sync>(
         skip: skip_of(lines),
         readings: readings_of(lines),
     };
-    match open(&stage, device_of(lines)) {
-        Ok(opened) => play_named::<Brand, _>(&stage, opened),
+    match play_on_stage(&stage) {
+        Ok(wrong) => wrong,
         Err(fault) => Some(Wrong::NotBegun(fault)),
     }
 }
 
 // The lines of the scene that begins there.
-fn scene_at<'b, 'a>(lines: &'b [Line<'a>], begin: usize) -> &'b [Line<'a>] {
-    let rest = &lines[begin.min(lines.len())..];
-    let ends = |(index, line): (usize, &Line)| index > 0 && matches!(line, Line::Scene(_));
-    match rest.iter().enumerate().position(ends) {
-        Some(end) => &rest[..end],
-        None => rest,
+fn scene_at<'b, 'a>(lines: &'b [Line<'a>], begin: usize) -> &'b [Line<'a>]
+    requires { begin < length lines.now }
+{
+    for end in begin + 1..lines.len() {
+        if matches!(lines[end], Line::Scene(_)) {
+            return &lines[begin..end];
+        }
     }
+    &lines[begin..]
 }
+
+/// The parts of a scene, one for each kind of line.
+const PARTS: [Part; 8] = [
+    Part::Before,
+    Part::Thread(0),
+    Part::Thread(1),
+    Part::Thread(2),
+    Part::Thread(LAST),
+    Part::Thread(4),
+    Part::Crowd,
+    Part::After,
+];
 
 // Whether a scene has something that is done, so that no table is played in vain.
 fn is_played(lines: &[Line]) -> bool {
-    let parts = [
-        Part::Before,
-        Part::Thread(0),
-        Part::Thread(1),
-        Part::Thread(2),
-        Part::Thread(LAST),
-        Part::Thread(4),
-        Part::Crowd,
-        Part::After,
-    ];
-    parts.iter().any(|part| has_part(lines, *part))
+    for part in &PARTS {
+        if has_part(lines, *part) {
+            return true;
+        }
+    }
+    false
+}
+
+// How many scenes a table has, in each of which something is done.
+fn scenes_of<R: Abort>(rt: &R, lines: &[Line]) -> usize {
+    let mut scenes: usize = 0;
+    for begin in 0..lines.len() {
+        if let Line::Scene(name) = lines[begin] {
+            let is_played = is_played(scene_at(lines, begin));
+            assert!(rt; is_played, "{name}: nothing is done");
+            scenes = scenes.saturating_add(1);
+        }
+    }
+    scenes
 }
 
 /// How many scenes of a table are played at once.
@@ -477,16 +530,39 @@ fn play_lane<'a, R: Clock + Threads + Wait + Sync>(
     lines: &[Line<'a>],
     lane: usize,
 ) -> Result<usize, (&'a str, Wrong)> {
-    let scenes = lines.iter().enumerate().filter_map(|(index, line)| match line {
-        Line::Scene(name) => Some((index, *name)),
-        _ => None,
-    });
-    let mut played: usize = 0;
-    for (begin, name) in scenes.skip(lane).step_by(LANES) {
-        if let Some(wrong) = play_scene(rt, alloc, scene_at(lines, begin)) {
-            return Err((name, wrong));
+    let (mut scene, mut played) = (0usize, 0usize);
+    for begin in 0..lines.len() {
+        let Line::Scene(name) = lines[begin] else {
+            continue;
+        };
+        if scene % LANES == lane {
+            if let Some(wrong) = play_scene(rt, alloc, scene_at(lines, begin)) {
+                return Err((name, wrong));
+            }
+            played = played.saturating_add(1);
         }
-        played = played.saturating_add(1);
+        scene = scene.saturating_add(1);
+    }
+    Ok(played)
+}
+
+// How many scenes of a lane were played. Fails where something went wrong in one.
+fn played_in<R: Abort>(rt: &R, ended: &Result<usize, (&str, Wrong)>) -> usize {
+    match ended {
+        Ok(played) => *played,
+        Err((name, wrong)) => panic!(rt; "{name}: {wrong:?}"),
+    }
+}
+
+// How many were played in all lanes.
+fn play_lanes<R: Abort + Clock + Threads + Wait + Sync>(
+    rt: &R,
+    alloc: Global,
+    lines: &[Line],
+) -> Result<usize, AllocError> {
+    let mut played: usize = 0;
+    for ended in map_indices(rt, alloc, LANES, &|lane| play_lane(rt, alloc, lines, lane))? {
+        played = played.saturating_add(played_in(rt, &ended));
     }
     Ok(played)
 }
@@ -498,27 +574,10 @@ pub(super) fn play<R: Abort + Clock + Threads + Wait + Sync>(
     alloc: Global,
     lines: &[Line],
 ) -> Result<(), Fail> {
-    assert!(rt;
-        matches!(lines.first(), Some(Line::Scene(_))),
-        "a table begins with a scene"
-    );
-    let mut scenes: usize = 0;
-    for (index, line) in lines.iter().enumerate() {
-        if let Line::Scene(name) = line {
-            assert!(rt;
-                is_played(scene_at(lines, index)),
-                "{name}: nothing is done"
-            );
-            scenes = scenes.saturating_add(1);
-        }
-    }
-    let mut played: usize = 0;
-    for ended in map_indices(rt, alloc, LANES, &|lane| play_lane(rt, alloc, lines, lane))? {
-        match ended {
-            Ok(more) => played = played.saturating_add(more),
-            Err((name, wrong)) => panic!(rt; "{name}: {wrong:?}"),
-        }
-    }
+    let begins = matches!(lines.first(), Some(Line::Scene(_)));
+    assert!(rt; begins, "a table begins with a scene");
+    let scenes = scenes_of(rt, lines);
+    let played = play_lanes(rt, alloc, lines)?;
     assert!(rt; played == scenes, "{played} of {scenes} scenes were played");
     Ok(())
 }

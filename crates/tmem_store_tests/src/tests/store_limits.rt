@@ -3,8 +3,8 @@
 ghost use Rattle.std.specs.Prelude.{◌≡◌, length};
 ghost use Rattle.tmem_store_tests.specs.Programs.{is_last_not_negative};
 
-use super::names::{Use, add, commit_all, has_all, has_none, numbered};
-use super::worlds::{commit_to, committed, formatted, step_to, write};
+use super::names::{Use, add, commit_all, has_all, has_none, numbered, variables_of};
+use super::worlds::{Played, commit_to, formatted, step_to, write, write_to};
 use std::alloc::Global;
 use std::process::Abort;
 use std::test::Fail;
@@ -37,34 +37,20 @@ enum Session {
 }
 
 /// Registers 64 names, and commits until 64 records wait. What one of the invariants forbids is refused by the first of them.
-fn fill<T: Invariants + Drop, S: StoredSteps + Drop>(
-    rt: &impl Abort,
-    alloc: Global,
-    world: &mut World<SimDisk, T, S>,
-) -> Result<(), Fault> {
+fn fill<W: Played>(rt: &impl Abort, alloc: Global, world: &mut W) -> Result<(), Fault> {
     commit_all(rt, alloc, world, 0, Use::Registers)?;
     let refused = Settled::Refused(numbered(0)?);
     commit_to(rt, world, write(alloc, 15, -1)?, Reply::Settled(refused));
     for number in 8..64u32 {
-        let value = i64::from(number);
-        commit_to(
-            rt,
-            world,
-            write(alloc, 15, value)?,
-            committed(u64::from(number), value),
-        );
+        write_to(rt, alloc, world, (15, i64::from(number)), u64::from(number))?;
     }
     Ok(())
 }
 
 /// Plays, as one list, a flush of the 64 records and what finds them again.
-fn flush_and_reopen<T: Invariants + Drop, S: StoredSteps + Drop>(
-    rt: &impl Abort,
-    alloc: Global,
-    world: &mut World<SimDisk, T, S>,
-) -> Result<(), Fault> {
+fn flush_and_reopen<W: Played>(rt: &impl Abort, alloc: Global, world: &mut W) -> Result<(), Fault> {
     let events = vec![in alloc; Event::Flush, Event::Reopen, Event::Look]?;
-    let had = world.play(events)?;
+    let had = world.play_list(events)?;
     let want = [Reply::Durable(64), Reply::Opened(64), Reply::Looked(64)];
     assert!(rt; had.as_slice() == want.as_slice());
     assert!(rt; has_all(world)?);
@@ -72,28 +58,27 @@ fn flush_and_reopen<T: Invariants + Drop, S: StoredSteps + Drop>(
 }
 
 /// Finds them, and again after a checkpoint.
-fn checkpoint_and_reopen<T: Invariants + Drop, S: StoredSteps + Drop>(
+fn checkpoint_and_reopen<W: Played>(
     rt: &impl Abort,
     alloc: Global,
-    world: &mut World<SimDisk, T, S>,
+    world: &mut W,
 ) -> Result<(), Fault> {
     step_to(rt, world, Event::Look, Reply::Looked(64));
     assert!(rt; has_all(world)?);
     step_to(rt, world, Event::Checkpoint, Reply::Checkpointed);
     step_to(rt, world, Event::Reopen, Reply::Opened(64));
     assert!(rt; has_all(world)?);
-    commit_to(rt, world, write(alloc, 0, 1)?, committed(64, 1));
-    Ok(())
+    write_to(rt, alloc, world, (0, 1), 64)
 }
 
 /// Retires all names, so that nothing is tested any more, makes that durable, and finds no name again.
-fn retire_and_reopen<T: Invariants + Drop, S: StoredSteps + Drop>(
+fn retire_and_reopen<W: Played>(
     rt: &impl Abort,
     alloc: Global,
-    world: &mut World<SimDisk, T, S>,
+    world: &mut W,
 ) -> Result<(), Fault> {
     commit_all(rt, alloc, world, 64, Use::Retires)?;
-    commit_to(rt, world, write(alloc, 15, -1)?, committed(72, -1));
+    write_to(rt, alloc, world, (15, -1), 72)?;
     step_to(rt, world, Event::Flush, Reply::Durable(73));
     step_to(rt, world, Event::Reopen, Reply::Opened(73));
     assert!(rt; has_none(world)?);
@@ -101,10 +86,10 @@ fn retire_and_reopen<T: Invariants + Drop, S: StoredSteps + Drop>(
 }
 
 /// A session of a world.
-fn play<T: Invariants + Drop, S: StoredSteps + Drop>(
+fn play<W: Played>(
     rt: &impl Abort,
     alloc: Global,
-    world: &mut World<SimDisk, T, S>,
+    world: &mut W,
     session: Session,
 ) -> Result<(), Fault> {
     match session {
@@ -196,13 +181,10 @@ fn play_over_all(
                 ensures { result ≡ is_last_not_negative values.now }
             { values[15] >= 0 },
         )?;
-        let footprint = vec![in alloc; 0, 1, 2, 3, 4, 5, 6, 7, 8, 9, 10, 11, 12, 13, 14, 15]?;
-        add(&mut entries, n, footprint, last)?;
+        add(&mut entries, n, variables_of(alloc, 0)?, last)?;
     }
-    let (table, steps) = (
-        Table::of(alloc, entries, VARS)?,
-        Steps::of(Vec::new(alloc))?,
-    );
+    let table = Table::of(alloc, entries, VARS)?;
+    let steps = Steps::of(Vec::new(alloc))?;
     play_session(rt, alloc, disk, table, steps, session)
 }
 

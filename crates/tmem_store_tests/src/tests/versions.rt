@@ -1,7 +1,7 @@
 //! A second version of a program goes on with the store of the first one: it has steps that the first one did not have.
 ghost use Rattle.std.specs.Prelude.{◌≡◌};
 
-use super::worlds::{commit_to, committed, opened, step_to, write};
+use super::worlds::{Played, commit_to, committed, opened, step_to, write_to};
 use std::alloc::Global;
 use std::process::Abort;
 use std::test::Fail;
@@ -40,12 +40,8 @@ fn begin_on<T: Invariants + Drop, S: StoredSteps + Drop>(
 }
 
 /// Plays it in this world.
-fn play_first<T: Invariants + Drop, S: StoredSteps + Drop>(
-    rt: &impl Abort,
-    alloc: Global,
-    world: &mut World<SimDisk, T, S>,
-) -> Result<(), Fault> {
-    commit_to(rt, world, write(alloc, 0, 5)?, committed(0, 5));
+fn play_first<W: Played>(rt: &impl Abort, alloc: Global, world: &mut W) -> Result<(), Fault> {
+    write_to(rt, alloc, world, (0, 5), 0)?;
     let bad = Event::Begin {
         slot: 0,
         tx: by_the_first_step(alloc)?,
@@ -66,26 +62,27 @@ fn reopen_and_play<T: Invariants + Drop, S: StoredSteps + Drop>(
     requires { T.vars table ≡ 4 }
 {
     match World::open(alloc, disk, 4, 4, table, steps) {
-        Ok(world) => play_later(rt, alloc, world),
+        Ok(mut world) => play_later(rt, alloc, &mut world),
         Err((fault, _disk)) => Err(fault),
     }
 }
 
 /// Plays it in a world that was opened.
-fn play_later<T: Invariants + Drop, S: StoredSteps + Drop>(
-    rt: &impl Abort,
-    alloc: Global,
-    mut world: World<SimDisk, T, S>,
-) -> Result<(), Fault> {
-    commit_to(rt, &mut world, by_the_first_step(alloc)?, committed(1, 14));
+fn play_later<W: Played>(rt: &impl Abort, alloc: Global, world: &mut W) -> Result<(), Fault> {
+    commit_to(rt, world, by_the_first_step(alloc)?, committed(1, 14));
     Ok(())
+}
+
+/// The first version has no step.
+fn begin(rt: &impl Abort, alloc: Global) -> Result<SimDisk, Fault> {
+    let steps = Steps::of(Vec::new(alloc))?;
+    begin_on(rt, alloc, Table::of(alloc, Vec::new(alloc), 4)?, steps)
 }
 
 #[test]
 fn a_store_outlives_the_steps_of_its_program(rt: HostRuntime) -> Result<(), Fail> {
     let alloc = rt.alloc();
-    let none = Steps::of(Vec::new(alloc))?;
-    let disk = begin_on(&rt, alloc, Table::of(alloc, Vec::new(alloc), 4)?, none)?;
+    let disk = begin(&rt, alloc)?;
     let table = Table::of(alloc, Vec::new(alloc), 4)?;
     reopen_and_play(&rt, alloc, disk, table, stored_steps())?;
     Ok(())

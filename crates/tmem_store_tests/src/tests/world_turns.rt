@@ -1,17 +1,16 @@
 //! An evaluation of as many turns as there may be, over invariants with footprints of their own, and the shapes of their table.
-ghost use Rattle.std.specs.Prelude.{◌≡◌, ◌≤◌, length, IfOk};
+ghost use Rattle.std.specs.Prelude.{◌≡◌, ◌≤◌, length};
 ghost use Rattle.tmem_store_tests.specs.Programs.{is_last_not_negative};
 
-use super::names::{add, numbered};
-use super::worlds::{committed, opened};
+use super::names::{add, numbered, variables_of};
+use super::worlds::{Played, committed, opened};
 use std::alloc::Global;
 use std::test::Fail;
-use tmem_disk::SimDisk;
 use tmem_fault::Fault;
 use tmem_invariants::Invariants;
 use tmem_tables::Table;
 use tmem_tree::{MAX_TURNS, Shape, Steps, StoredSteps, Tx, shapes_of};
-use tmem_world::{Event, Reply, World};
+use tmem_world::{Event, Reply};
 
 const VARS: u16 = 1024;
 
@@ -29,10 +28,7 @@ fn reads_and_checks(alloc: Global) -> Result<Tx, Fault> {
 }
 
 /// How many turns a transaction takes until it has ended, or 0 where the most that there may be are too few.
-fn turns<T: Invariants + Drop, S: StoredSteps + Drop>(
-    world: &mut World<SimDisk, T, S>,
-    tx: Tx,
-) -> u32 {
+fn turns<W: Played>(world: &mut W, tx: Tx) -> u32 {
     world.step(Event::Begin { slot: 0, tx });
     for turn in 1..=MAX_TURNS {
         let reply = world.step(Event::Turn { slot: 0 });
@@ -44,10 +40,7 @@ fn turns<T: Invariants + Drop, S: StoredSteps + Drop>(
 }
 
 /// How many turns that transaction takes as the first of a store, or 0 where it is not committed then.
-fn committed_after<T: Invariants + Drop, S: StoredSteps + Drop>(
-    alloc: Global,
-    world: &mut World<SimDisk, T, S>,
-) -> Result<u32, Fault> {
+fn committed_after<W: Played>(alloc: Global, world: &mut W) -> Result<u32, Fault> {
     let taken = turns(world, reads_and_checks(alloc)?);
     if world.step(Event::Settle { slot: 0 }) == committed(0, 0) {
         Ok(taken)
@@ -104,18 +97,6 @@ fn turns_over<T: Invariants + Drop, S: StoredSteps + Drop>(
     }
 }
 
-/// The footprint of the invariant of a number: the sixteen variables behind those of lesser numbers.
-fn variables_of(alloc: Global, number: u8) -> Result<Vec<u16>, Fault>
-    ensures { IfOk result (λ vars. length vars.items ≡ 16) }
-{
-    let first = 16 * u16::from(number);
-    let mut vars = Vec::new(alloc);
-    for k in 0..16u16 {
-        vars.push(first + k)?;
-    }
-    Ok(vars)
-}
-
 /// How many turns it takes over eight invariants, each of which is that the last of its sixteen variables is not negative.
 fn turns_over_eight(alloc: Global) -> Result<Option<u32>, Fault> {
     let mut entries = Vec::new(alloc);
@@ -127,14 +108,10 @@ fn turns_over_eight(alloc: Global) -> Result<Option<u32>, Fault> {
                 ensures { result ≡ is_last_not_negative values.now }
             { values[15] >= 0 },
         )?;
-        let footprint = variables_of(alloc, n)?;
-        add(&mut entries, n, footprint, last)?;
+        add(&mut entries, n, variables_of(alloc, n)?, last)?;
     }
-    let (table, steps) = (
-        Table::of(alloc, entries, VARS)?,
-        Steps::of(Vec::new(alloc))?,
-    );
-    turns_over(alloc, table, steps)
+    let table = Table::of(alloc, entries, VARS)?;
+    turns_over(alloc, table, Steps::of(Vec::new(alloc))?)
 }
 
 // at: 512 nodes, 8 checks, 16 footprint variables, 1024 variables

@@ -1,10 +1,11 @@
 //! What the tests of worlds share: devices, and transactions with their replies.
+ghost use Rattle.std.specs.List.{All};
 ghost use Rattle.tmem_event.specs.Events.{NamesAttempt};
 
 use std::alloc::Global;
 use std::process::Abort;
 use tmem_disk::SimDisk;
-use tmem_fault::Fault;
+use tmem_fault::{Fault, Name};
 use tmem_invariants::Invariants;
 use tmem_tree::{MAX_TURNS, StoredSteps, Tx};
 use tmem_world::{Event, Layout, Reply, Settled, World, format};
@@ -51,11 +52,40 @@ pub(super) fn opened<T: Invariants + Drop, S: StoredSteps + Drop>(
     }
 }
 
+/// What is done with a world. It says nothing of what a step promises, so that what stands above it carries none of it.
+pub(super) trait Played {
+    /// Plays an event.
+    fn step(&mut self, event: Event) -> Reply
+        requires { NamesAttempt event };
+
+    /// Plays a list of them.
+    fn play_list(&mut self, events: Vec<Event>) -> Result<Vec<Reply>, Fault>
+        requires { All NamesAttempt events.items };
+
+    /// Whether a name is registered, where there is a session.
+    fn knows(&self, name: &Name) -> Option<bool>;
+}
+
+impl<T: Invariants + Drop, S: StoredSteps + Drop> Played for World<SimDisk, T, S> {
+    fn step(&mut self, event: Event) -> Reply {
+        self.step(event)
+    }
+
+    fn play_list(&mut self, events: Vec<Event>) -> Result<Vec<Reply>, Fault> {
+        self.play(events)
+    }
+
+    fn knows(&self, name: &Name) -> Option<bool> {
+        if self.is_open() {
+            Some(self.has(name))
+        } else {
+            None
+        }
+    }
+}
+
 /// Begins a transaction in attempt 0, evaluates it to its end, and settles it.
-pub(super) fn commit<T: Invariants + Drop, S: StoredSteps + Drop>(
-    world: &mut World<SimDisk, T, S>,
-    tx: Tx,
-) -> Reply {
+pub(super) fn commit<W: Played>(world: &mut W, tx: Tx) -> Reply {
     world.step(Event::Begin { slot: 0, tx });
     for _ in 0..=MAX_TURNS {
         let reply = world.step(Event::Turn { slot: 0 });
@@ -67,13 +97,21 @@ pub(super) fn commit<T: Invariants + Drop, S: StoredSteps + Drop>(
 }
 
 /// The same, where this is to be its reply.
-pub(super) fn commit_to<T: Invariants + Drop, S: StoredSteps + Drop>(
-    rt: &impl Abort,
-    world: &mut World<SimDisk, T, S>,
-    tx: Tx,
-    want: Reply,
-) {
+pub(super) fn commit_to<W: Played>(rt: &impl Abort, world: &mut W, tx: Tx, want: Reply) {
     must_be(rt, &commit(world, tx), &want);
+}
+
+/// Writes a number to a variable, where this is to be the number of the transaction.
+pub(super) fn write_to<W: Played>(
+    rt: &impl Abort,
+    alloc: Global,
+    world: &mut W,
+    (var, value): (u16, i64),
+    number: u64,
+) -> Result<(), Fault> {
+    let tx = write(alloc, var, value)?;
+    commit_to(rt, world, tx, committed(number, value));
+    Ok(())
 }
 
 fn must_be(rt: &impl Abort, had: &Reply, want: &Reply) {
@@ -81,12 +119,7 @@ fn must_be(rt: &impl Abort, had: &Reply, want: &Reply) {
 }
 
 /// Makes a step, whose reply is to be this.
-pub(super) fn step_to<T: Invariants + Drop, S: StoredSteps + Drop>(
-    rt: &impl Abort,
-    world: &mut World<SimDisk, T, S>,
-    event: Event,
-    want: Reply,
-)
+pub(super) fn step_to<W: Played>(rt: &impl Abort, world: &mut W, event: Event, want: Reply)
     requires { NamesAttempt event }
 {
     must_be(rt, &world.step(event), &want);

@@ -1,6 +1,6 @@
 use Rattle.tmem_front.specs.Held.{front_found, spine_of}
 use Rattle.tmem_store_tests.specs.Examples.{adding}
-use Rattle.tmem_store_tests.proofs.tests.scenes.play_scene.Given as goal
+use Rattle.tmem_store_tests.proofs.tests.scenes.play_on_stage.Given as goal
 
 -- the store that was just opened
 abbrev pub ghosts-play_named-N-Naming : goal.ghosts-play_named-N-Naming

@@ -1,4 +1,4 @@
-use Rattle.tmem_store_tests.proofs.tests.fronts.attempt_and_settle.Goals as goal
+use Rattle.tmem_store_tests.proofs.tests.store.attempt_and_settle.Goals as goal
 
 pub attempt-requires-clause-steps : goal.attempt-requires-clause-steps
 attempt-requires-clause-steps g c = c.requires.steps

@@ -1,6 +1,0 @@
-use denote.Param.Send.{sendable}
-use Rattle.tmem_front.proofs.Laws.{front_sync}
-use Rattle.tmem_store_tests.proofs.tests.scenes.play_whole_scene.Goals as goal
-
-pub play_all-threads-requires-sync-F : goal.play_all-threads-requires-sync-F
-play_all-threads-requires-sync-F g c κs within = search (sendable, front_sync, c.type_bounds) depth 12
