@@ -44,7 +44,7 @@ def listed(*patterns):
 
 
 class KeptStore:
-    """A store that is kept as text: `numbers` of variables and of log slots, its `parts`, each a place and the bytes from there on, its
+    """A store that is kept as text: `numbers` of variables and of log slots, its `parts`, each an offset and the bytes from there on, its
     `content`, which has 0 elsewhere, and the content `after` an opening. Below comments, the first line of the file has the numbers and
     the size in bytes, and each further line a part, whose bytes are in hexadecimal. Beside it, with `.after`, are the parts that an
     opening changes."""
@@ -52,16 +52,16 @@ class KeptStore:
     def __init__(self, path):
         (*self.numbers, size), *parts = (line.split() for line in text(path).decode().splitlines() if not line.startswith("#"))
         self.numbers = [*map(int, self.numbers)]
-        self.parts = [(int(place), bytes.fromhex(part)) for place, part in parts]
+        self.parts = [(int(at), bytes.fromhex(part)) for at, part in parts]
         self.content = self.with_parts(bytes(int(size)), self.parts)
         changed = (line.split() for line in text(f"{path}.after").decode().splitlines())
-        self.after = self.with_parts(self.content, [(int(place), bytes.fromhex(part)) for place, part in changed])
+        self.after = self.with_parts(self.content, [(int(at), bytes.fromhex(part)) for at, part in changed])
 
     @staticmethod
     def with_parts(content, parts):
         content = bytearray(content)
-        for place, part in parts:
-            content[place : place + len(part)] = part
+        for at, part in parts:
+            content[at : at + len(part)] = part
         return bytes(content)
 
 
@@ -87,7 +87,7 @@ def run(words, given=b"", room=None, **env):
 
 
 def watched(room, words, given=b"", **env):
-    """Runs a program in a folder, under watch.c with these variables: what it does, and its calls (name, file, place, bytes)."""
+    """Runs a program in a folder, under watch.c with these variables: what it does, and its calls (name, file, offset, bytes)."""
     library, calls = f"{room}/watch.so", f"{room}/calls"
     if not os.path.exists(library):
         subprocess.run([os.environ.get("CC", "cc"), "-O1", "-shared", "-fPIC", "-o", library, ".ci/watch.c", "-ldl"], check=True)

@@ -1,5 +1,5 @@
 /* Loaded before a program's libraries. It appends a line for each call to the file CALLS: what is called, the name of the file,
-   the place in it and how many bytes. And it lets calls fail, as these variables say:
+   the offset in it and how many bytes. And it lets calls fail, as these variables say:
    FAILING=N  the Nth call that writes, syncs or names a file
    ERRNO=N    that call fails by this error, else by EIO
    KILLED=N   the program is killed at that call, and half of a write is done then

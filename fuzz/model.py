@@ -151,9 +151,9 @@ class Opened:
         if broken:
             raise Refused(f"fault 11 broken {broken}")
 
-    def generation_at(self, place):
+    def generation_at(self, at):
         """The generation in a cell, if its gate is open."""
-        return struct.unpack_from("<Q", self.content, place + 1)[0] if self.content[place] == OPEN else None
+        return struct.unpack_from("<Q", self.content, at + 1)[0] if self.content[at] == OPEN else None
 
     def read_image(self, newest):
         layout = self.layout

@@ -98,7 +98,7 @@ fn restart<W: Write>(disk: &mut SimDisk, out: &mut W) -> io::Result<()> {
     out.write_all(line)
 }
 
-// Writes bytes, and syncs. The row is bad where the device has no place for them.
+// Writes bytes, and syncs. The row is bad where the device has no room for them.
 fn overwrite<W: Write>(
     disk: &mut SimDisk,
     at: u64,
@@ -114,7 +114,7 @@ fn overwrite<W: Write>(
     Ok(out.write_all(b"written\n")?)
 }
 
-// Whether a device has so many bytes from a place on.
+// Whether a device has so many bytes from an offset on.
 fn has_range(disk: &SimDisk, at: u64, count: u64) -> bool
     ensures { result ≡ true → at + count ≤ (sim_view disk.now).capacity }
 {

@@ -17,7 +17,7 @@
 //! |---|---|
 //! | `{"open":TABLE}`, `{"open":[TABLE,VARS,SLOTS]}` | opens the device with the invariants of the program (`"builtin"`), with none (`"none"`) or with a `nonneg` that is always false (`"broken"`): `opened COUNT` or a fault |
 //! | `{"fail":[CALL,K]}` | lets call number K from now fail, a `"read"`, a `"write"` or a `"sync"`; prints nothing |
-//! | `{"crash":["write",K,FILL]}`, `{"crash":["place",AT,FILL]}` | crashes the device at write number K from now, or at the next one that starts at a place; prints nothing. FILL is `"old"`, `"new"` or a byte, for what was written since the last sync |
+//! | `{"crash":["write",K,FILL]}`, `{"crash":["place",AT,FILL]}` | crashes the device at write number K from now, or at the next one that starts at byte AT; prints nothing. FILL is `"old"`, `"new"` or a byte, for what was written since the last sync |
 //! | `{"crash":["now",FILL]}` | crashes it now; prints nothing |
 //! | `"restart"` | starts the device again: `restarted`, or `not crashed` |
 //! | `{"bytes":[AT,COUNT]}` | prints bytes in hexadecimal |

@@ -48,16 +48,16 @@ pub(crate) enum Touch {
     Fail(DeviceFault, u64),
     /// Crashes the device at the write of this number from now.
     CrashAtWrite(u64, Fill),
-    /// Crashes the device at the next write that starts at this place.
+    /// Crashes the device at the next write that starts at this offset.
     CrashAtPlace(u64, Fill),
     CrashNow(Fill),
     /// Starts the device again, if it has crashed.
     Restart,
-    /// Prints so many bytes from a place on.
+    /// Prints the bytes from this offset on, so many.
     Bytes(u64, u64),
-    /// Writes bytes from a place on, and syncs.
+    /// Writes bytes from this offset on, and syncs.
     Write(u64, Vec<u8>),
-    /// Reads so many bytes from one place on, writes them from another on, and syncs.
+    /// Reads from the first offset on so many bytes, writes them from the second on, and syncs.
     Copy(u64, u64, u64),
     /// Opens a journal on the device.
     Recover(Numbers),

@@ -11,7 +11,7 @@ abbrev pub lengthened : List ℕ → ℕ → List ℕ
 lengthened c n = c ++ replicate (n - length c) 0
 
 -- a store that begins with these bytes has so many, and these are fewer; made so long, they are those of a store
-abbrev pub IsCutOff : List ℕ → ℕ → Type 0
-IsCutOff c n =
+abbrev pub EndsTooSoon : List ℕ → ℕ → Type 0
+EndsTooSoon c n =
     (version : Version) × (vars : ℕ) × (slots : ℕ) × IsBlock version vars slots c × (n ≡ end_at vars slots) × (length c < n)
     × ((state : State) × IsStateFound vars slots (lengthened c n) state)

@@ -3,7 +3,7 @@ ghost use Rattle.std.specs.Prelude.{◌≡◌, ◌≤◌, ◌<◌, ◌-◌, ◌+
 ghost use Rattle.tmem_parts.specs.Parts.{IsStateFound};
 ghost use Rattle.tmem_record.specs.Layout.{end_at};
 ghost use Rattle.tmem_effect.specs.State.{State};
-ghost use Rattle.tmem_show.specs.Cuts.{IsCutOff, lengthened};
+ghost use Rattle.tmem_show.specs.Cuts.{EndsTooSoon, lengthened};
 
 use crate::log::{choose, used};
 use crate::source::Source;
@@ -19,7 +19,7 @@ const HEAD_BYTES: u64 = 9;
 /// log: then none of what was cut off is of its log. None where that is not so, or is not known, and where it is long enough. The only error
 /// is want of memory.
 pub fn length_without_loss(alloc: Global, source: &Source) -> Result<Option<u64>, Fault>
-    ensures cut { IfOk result (λ told. IfSome told (IsCutOff source.now.bytes.items)) }
+    ensures cut { IfOk result (λ told. IfSome told (EndsTooSoon source.now.bytes.items)) }
     ensures refused { IfErr result (λ fault. fault ≡ Fault.Memory) }
 {
     match block_of(&source.bytes) {

@@ -15,7 +15,7 @@ pub(crate) const MARK_AT: usize = 2047;
 /// Some bytes that belong together, and what they are.
 #[derive(Clone, Copy)]
 pub(crate) struct Field {
-    /// Their place, counted from the first byte of the store.
+    /// The offset of the first one in the store.
     pub(crate) at: u64,
     pub(crate) length: u64,
     pub(crate) is: Is,
@@ -136,7 +136,7 @@ pub(crate) fn walk_block(walk: &mut Walk) {
     }
 }
 
-/// Walks over an image copy of so many variables, which begins at a place.
+/// Walks over an image copy of so many variables, which begins at this offset.
 pub(crate) fn walk_image(walk: &mut Walk, at: usize, vars: u16) {
     if walk_gate(walk) {
         walk_header(walk, at);

@@ -32,7 +32,7 @@ pub(crate) struct Walk<'a> {
 }
 
 impl<'a> Walk<'a> {
-    /// A walk that begins at a place, in a part that ends at another.
+    /// A walk that begins at an offset, in a part that ends at another.
     pub(crate) fn new(alloc: Global, bytes: &'a [u8], at: usize, end: usize) -> Walk<'a>
         requires within { at ≤ end }
         requires there { end ≤ length bytes.now }
@@ -191,7 +191,7 @@ impl<'a> Walk<'a> {
         name
     }
 
-    /// Passes zeros up to a place of the part.
+    /// Passes zeros up to an offset in the part.
     pub(crate) fn zeros_to(&mut self, at: usize) {
         let end = at.min(self.end);
         if end <= self.at {

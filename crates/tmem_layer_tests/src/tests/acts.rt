@@ -21,17 +21,17 @@ pub(super) enum Act<'a> {
     Row,
     /// A new device of so many zeros, in the place of any other.
     Makes(u64),
-    /// A new device of so many bytes, in the place of any other: these at these places, and zeros elsewhere. It is synced.
+    /// A new device of so many bytes, in the place of any other: these from these offsets on, and zeros elsewhere. It is synced.
     MakesWith(u64, &'a [(u64, &'a [u8])]),
     /// It holds so many bytes.
     Size(u64),
-    /// A read from a place on gives these bytes.
+    /// A read from this offset on gives these bytes.
     Reads(u64, &'a [u8]),
-    /// It holds these bytes at these places and then those, and zeros elsewhere.
+    /// It holds these bytes from these offsets on and then those, and zeros elsewhere.
     HoldsBytes(&'a [(u64, &'a [u8])], &'a [(u64, &'a [u8])]),
-    /// A read of so many bytes from a place on fails.
+    /// A read from this offset on of so many bytes fails.
     ReadFails(u64, usize),
-    /// These bytes are written from a place on.
+    /// These bytes are written from this offset on.
     Writes(u64, &'a [u8]),
     /// That fails.
     WriteFails(u64, &'a [u8]),
@@ -41,7 +41,7 @@ pub(super) enum Act<'a> {
     FailRead(u64),
     FailWrite(u64),
     FailSync(u64),
-    /// Arms a crash, at a write or a sync by its number from now, or at a write by the place where it starts.
+    /// Arms a crash, at a write or a sync by its number from now, or at a write by the offset where it starts.
     StopAtWrite(u64, Fill),
     StopAtSync(u64, Fill),
     StopAtPlace(u64, Fill),
@@ -57,7 +57,7 @@ pub(super) enum Act<'a> {
     Made(Option<u64>, u64, u64),
     /// Its writes since then had so many bytes together.
     MadeBytes(u64),
-    /// These are all of its writes since then, each its place and how many bytes it had.
+    /// These are all of its writes since then, each its offset and how many bytes it had.
     Wrote(&'a [(u64, usize)]),
     /// Is formatted for so many variables and slots.
     Formats(u16, u16, Result<(), &'a str>),
@@ -325,12 +325,12 @@ fn is_made(alloc: Global, disk: &mut Device, size: u64) -> bool {
     }
 }
 
-/// Puts a device of so many bytes in the place of another, these at these places and zeros elsewhere, and syncs it.
+/// Puts a device of so many bytes in the place of another, these from these offsets on and zeros elsewhere, and syncs it.
 fn is_made_with(alloc: Global, disk: &mut Device, size: u64, parts: &[(u64, &[u8])]) -> bool {
     is_made(alloc, disk, size) && are_put(disk, parts) && disk.sync().is_ok()
 }
 
-/// Writes these bytes at these places.
+/// Writes these bytes from these offsets on.
 fn are_put(disk: &mut Device, parts: &[(u64, &[u8])]) -> bool {
     for (at, bytes) in parts {
         if !matches!(write(disk, *at, bytes), Some(Ok(()))) {

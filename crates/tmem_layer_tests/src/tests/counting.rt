@@ -1,4 +1,4 @@
-//! A device that counts its calls, and keeps the places of its writes.
+//! A device that counts its calls, and keeps the offsets of its writes.
 use tmem_disk::{DeviceFault, Disk};
 
 /// How often each call was made.
@@ -50,7 +50,7 @@ impl<D: Disk> CountDisk<D> {
         self.calls = NONE;
     }
 
-    /// Whether these writes are counted, in this order: each a place and how many bytes were written from there on.
+    /// Whether these writes are counted, in this order: each its offset and how many bytes it had.
     pub(super) fn wrote(&self, writes: &[(u64, usize)]) -> bool {
         writes.len() as u64 == self.calls.writes && self.kept.get(..writes.len()) == Some(writes)
     }
@@ -58,8 +58,8 @@ impl<D: Disk> CountDisk<D> {
 
 /// Keeps a write, if there is room for one of its number.
 fn keep(kept: &mut [(u64, usize)], number: u64, write: (u64, usize)) {
-    if let Some(place) = kept.get_mut(number as usize) {
-        *place = write;
+    if let Some(kept) = kept.get_mut(number as usize) {
+        *kept = write;
     }
 }
 

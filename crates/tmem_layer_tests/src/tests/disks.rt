@@ -16,7 +16,7 @@ static CONTENTS: &[Act<'static>] = &[
     Syncs,
     Reads(0, &[7]),
     Made(Some(1), 2, 1),
-    Case("a sync keeps both of two ranges up to their last places"),
+    Case("a sync keeps both of two ranges up to their last bytes"),
     Makes(16),
     Writes(16, &[]),
     Writes(2, &[1, 1, 1]),
@@ -215,8 +215,8 @@ fn a_crashed_device_fails_until_its_restart(rt: HostRuntime) {
 }
 
 static PLACES: &[Act<'static>] = &[
-    // one that covers the place, one before it and one behind it; and it is met once
-    Case("only a write that starts at the place meets its crash"),
+    // one that covers the offset, one before it and one behind it; and it is met once
+    Case("only a write that starts at the offset meets its crash"),
     Makes(4),
     Row,
     StopAtPlace(2, Old),
@@ -254,7 +254,7 @@ static PLACES: &[Act<'static>] = &[
     Restarts,
     Reads(0, &[9, 5, 9, 6]),
     Writes(2, &[8]),
-    Case("a crash at a place takes the place of an armed one, and waits at a crash"),
+    Case("a crash at an offset takes the place of an armed one, and waits at a crash"),
     Makes(4),
     StopAtWrite(0, New),
     StopAtPlace(1, New),

@@ -1,7 +1,7 @@
 //! Stores of format version 1, as they lie on a device, and what the opening of a journal makes of them.
 //!
-//! Each is a list of places, with the bytes from there on. Every other byte is 0. A program of version 1 made them. The first three have four variables and four slots, in 22016
-//! bytes: copy 1 of the image begins at 3072, slot 0 at 5632.
+//! Each is a list of offsets, with the bytes from there on. Every other byte is 0. A program of version 1 made them. The first three have
+//! four variables and four slots, in 22016 bytes: copy 1 of the image begins at 3072, slot 0 at 5632.
 use super::acts::Act::{
     Case, Checkpoints, Closes, CountsAnew, FlushesTo, Holds, HoldsAll, HoldsBytes, HoldsNames,
     Made, MakesWith, Opens, Reads, Row, Writes, Wrote,

@@ -41,15 +41,15 @@ impl Invariants for AlwaysTrue {
         self.vars
     }
 
-    fn name(&self, _place: usize) -> Name {
+    fn name(&self, _index: usize) -> Name {
         always()
     }
 
-    fn footprint(&self, _place: usize) -> &[u16] {
+    fn footprint(&self, _index: usize) -> &[u16] {
         &[]
     }
 
-    fn answer(&self, _place: usize, _values: &[i64]) -> bool {
+    fn answer(&self, _index: usize, _values: &[i64]) -> bool {
         true
     }
 
