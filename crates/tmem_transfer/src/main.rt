@@ -2,7 +2,7 @@
 #![tactic(auto)]
 
 ghost use Rattle.std.specs.Prelude.{◌≡◌, length, IfOk};
-ghost use Rattle.tmem_transfer.specs.Accounts.{add_up_to_zero};
+ghost use Rattle.tmem_transfer.specs.Accounts.{add_up_to_zero, reply_or_fault};
 ghost use Rattle.tmem_world.specs.Represents.{numbers_of, HoldsSession};
 
 use std::alloc::Global;
@@ -64,12 +64,8 @@ fn transfer<D: Disk + Drop, T: Invariants + Drop, S: StoredSteps + Drop>(
 {
     let is_moved = commit(world, move_once(alloc)?)?;
     let is_lost = commit(world, write(alloc, 1, 0)?)?;
-    if let Reply::Fault(fault) = world.step(Event::Flush) {
-        return Err(fault);
-    }
-    if let Reply::Fault(fault) = world.step(Event::Reopen) {
-        return Err(fault);
-    }
+    let _ = reply_or_fault(world.step(Event::Flush))?;
+    let _ = reply_or_fault(world.step(Event::Reopen))?;
     if !world.is_open() {
         return Err(Fault::Closed);
     }
@@ -128,19 +124,24 @@ fn commit<D: Disk + Drop, T: Invariants + Drop, S: StoredSteps + Drop>(
 ) -> Result<bool, Fault>
     ensures { numbers_of world.new ≡ numbers_of world.old }
 {
-    if let Reply::Fault(fault) = world.step(Event::Begin { slot: 0, tx }) {
-        return Err(fault);
-    }
+    let _ = reply_or_fault(world.step(Event::Begin { slot: 0, tx }))?;
     for _ in 0..=MAX_TURNS {
-        let reply = world.step(Event::Turn { slot: 0 });
-        if matches!(reply, Reply::Ended) {
+        let turned = reply_or_fault(world.step(Event::Turn { slot: 0 }))?;
+        if matches!(turned, Reply::Ended) {
             break;
         }
     }
-    match world.step(Event::Settle { slot: 0 }) {
-        Reply::Settled(Settled::Committed { .. }) => Ok(true),
+    let settled = reply_or_fault(world.step(Event::Settle { slot: 0 }))?;
+    Ok(matches!(settled, Reply::Settled(Settled::Committed { .. })))
+}
+
+/// A reply, or the fault by which the event was refused.
+fn reply_or_fault(reply: Reply) -> Result<Reply, Fault>
+    ensures { result ≡ reply_or_fault reply }
+{
+    match reply {
         Reply::Fault(fault) => Err(fault),
-        _ => Ok(false),
+        other => Ok(other),
     }
 }
 
