@@ -1,4 +1,4 @@
-//! Lines that no row prints: of answers that no program gives, and of how an output is flushed.
+//! Lines that no row prints: of answers that no program gives, and of how an output is flushed and written.
 
 use crate::failure::CallFailure;
 use crate::serving::output::Output;
@@ -14,6 +14,7 @@ use tmem_tree::Settled;
 pub(crate) fn print_lines<W: Write>(alloc: Global, out: &mut W) -> Result<(), CallFailure> {
     print_answers(out)?;
     print_flushes(alloc, out)?;
+    print_writes(alloc, out)?;
     Ok(out.flush()?)
 }
 
@@ -50,4 +51,18 @@ fn print_flushes<W: Write>(alloc: Global, out: &mut W) -> io::Result<()> {
         writeln!(out, "{answered}: {end}, asked {} times", output.flushes)?;
     }
     Ok(())
+}
+
+// How many bytes four writes take of an output that takes one byte, is interrupted, and begins again.
+fn print_writes<W: Write>(alloc: Global, out: &mut W) -> Result<(), CallFailure> {
+    let turns = vec![in alloc; Ok(1), Err(ErrorKind::Interrupted)]?;
+    let mut output = Output::new(alloc, turns, None);
+    out.write_all(b"taken:")?;
+    for _ in 0..4 {
+        match output.write(b"ab") {
+            Ok(count) => write!(out, " {count}")?,
+            Err(_) => out.write_all(b" none")?,
+        }
+    }
+    Ok(out.write_all(b"\n")?)
 }
