@@ -18,7 +18,7 @@ fault_help fault.Unknown =
 fault_help fault.Full = codes "256 transactions wait to be durable; flush, and settle again"
 fault_help fault.LogFull = codes "every slot of the log is used; make a checkpoint, and flush again"
 fault_help fault.Conflict = codes "a value that the transaction read has changed; begin it again"
-fault_help fault.NotFormatted = codes "this does not begin as a store; check the path; only if a store was there, move this away, and put a copy in its place (what the copy lacks is lost); only if there never was one, make one by tmem init"
+fault_help fault.NotFormatted = codes "this does not begin as a store; check the path; only if a store was there, move this away, and put a copy in its place (what the copy lacks is lost); only if there never was one, make one at another path by tmem init"
 fault_help fault.Damaged =
     codes "the file is not as tmem leaves one: something else changed it, or a later version of tmem wrote it; run that version, or else move the file away and put a copy in its place (tmem does not repair it, and what the copy lacks is lost)"
 fault_help (fault.Missing name) =
