@@ -100,7 +100,7 @@ ended_plan _ = []
 
 -- A plan that is answered Committed is committed last, and a Reopen that is answered Opened keeps the transactions below its number.
 abbrev pub committed_after : WorldModel → Event → Reply → List Tx → List Tx
-committed_after m (event.Settle slot) (reply.Settled (Committed number registers)) txs = txs ++ ended_plan (attempt_at m slot)
+committed_after m (event.Settle k) (reply.Settled (Committed number registers)) txs = txs ++ ended_plan (attempt_at m k)
 committed_after m event.Reopen (reply.Opened n) txs = take n txs
 committed_after m e r txs = txs
 

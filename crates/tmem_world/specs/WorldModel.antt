@@ -92,10 +92,10 @@ opening s position failures = record {
 }
 
 abbrev pub attempt_at : WorldModel → ℕ → AttemptModel
-attempt_at m slot = slice_index_or m.attempts slot NoTransaction
+attempt_at m k = slice_index_or m.attempts k NoTransaction
 
 abbrev pub holding : WorldModel → ℕ → AttemptModel → WorldModel
-holding m slot a = record m { attempts = slice_set m.attempts slot a }
+holding m k a = record m { attempts = slice_set m.attempts k a }
 
 -- a plan is begun, or the least broken limit is named; for one that breaks none memory may be wanting
 abbrev pub IsPlanFault : Setting → Tx → Fault → Type 0
@@ -104,9 +104,9 @@ IsPlanFault set tx (fault.BadPlan cause) = IsLeastBroken set.arities set.vars se
 IsPlanFault set tx _ = ⊥
 
 abbrev pub AllowsBegin : Setting → WorldModel → ℕ → Tx → Reply → WorldModel → Type 0
-AllowsBegin set m slot tx reply.Begun m' = BreaksNone set.arities set.vars set.program.names tx × (m' ≡ holding m slot (Begun tx [] 0))
-AllowsBegin set m slot tx (reply.Fault f) m' = IsPlanFault set tx f × (m' ≡ m)
-AllowsBegin set m slot tx _ m' = ⊥
+AllowsBegin set m k tx reply.Begun m' = BreaksNone set.arities set.vars set.program.names tx × (m' ≡ holding m k (Begun tx [] 0))
+AllowsBegin set m k tx (reply.Fault f) m' = IsPlanFault set tx f × (m' ≡ m)
+AllowsBegin set m k tx _ m' = ⊥
 
 -- the values that were read, and those of the map for all other variables
 abbrev pub value_or : Option ℤ → ℤ → ℤ
@@ -119,14 +119,14 @@ overridden reads values var = value_or (look reads var) (values var)
 -- A plan goes on with the first that is open: it reads the present value of a variable, or an invariant is tested on the values that
 -- the plan has for it there. A plan of which nothing is open has ended.
 abbrev pub goes_on : Option Ask → Program → WorldModel → ℕ → Tx → List (ℕ × ℤ) → ℕ → Reply × WorldModel
-goes_on (Some (Visit var)) program m slot plan reads answered =
+goes_on (Some (Visit var)) program m k plan reads answered =
     let value = map_of (present program m) var in
-    (reply.Read var value, holding m slot (Begun plan (reads ++ (var, value) ∷ []) answered))
-goes_on (Some (Probe name values)) program m slot plan reads answered =
-    (reply.Probed name (program.tests.test name values), holding m slot (Begun plan reads (answered + 1)))
-goes_on None program m slot plan reads answered =
+    (reply.Read var value, holding m k (Begun plan (reads ++ (var, value) ∷ []) answered))
+goes_on (Some (Probe name values)) program m k plan reads answered =
+    (reply.Probed name (program.tests.test name values), holding m k (Begun plan reads (answered + 1)))
+goes_on None program m k plan reads answered =
     let values = overridden reads (map_of (present program m)) in
-    (reply.Ended, holding m slot (Ended plan (valued values (visited program.steps program.tests plan values))))
+    (reply.Ended, holding m k (Ended plan (valued values (visited program.steps program.tests plan values))))
 
 -- what is open in a plan's run on the present map overridden by its reads
 abbrev pub open_in : Program → WorldModel → Tx → List (ℕ × ℤ) → ℕ → Option Ask
@@ -135,10 +135,10 @@ open_in program m plan reads answered =
 
 -- a begun plan is run on the present map overridden by its reads; one that has ended stays so
 abbrev pub AllowsTurn : Program → AttemptModel → WorldModel → ℕ → Reply → WorldModel → Type 0
-AllowsTurn program NoTransaction m slot r m' = (r ≡ reply.Idle) × (m' ≡ m)
-AllowsTurn program (Ended plan reads) m slot r m' = (r ≡ reply.Ended) × (m' ≡ m)
-AllowsTurn program (Begun plan reads answered) m slot r m' =
-    ((r, m') ≡ goes_on (open_in program m plan reads answered) program m slot plan reads answered)
+AllowsTurn program NoTransaction m k r m' = (r ≡ reply.Idle) × (m' ≡ m)
+AllowsTurn program (Ended plan reads) m k r m' = (r ≡ reply.Ended) × (m' ≡ m)
+AllowsTurn program (Begun plan reads answered) m k r m' =
+    ((r, m') ≡ goes_on (open_in program m plan reads answered) program m k plan reads answered)
     ⊎ ((r ≡ reply.Fault fault.Memory) × (m' ≡ m))
 
 abbrev pub is_closed : SessionStatus → Bool
@@ -147,17 +147,17 @@ is_closed _ = true
 
 -- The run after the answer to a plan that has ended. A refused attempt stays.
 abbrev pub settled_by : Result Settled Fault → WorldModel → ℕ → Tx → WorldModel
-settled_by (Ok (Committed number registers)) m slot plan = record (holding m slot NoTransaction) { committed = m.committed ++ plan ∷ [] }
-settled_by (Ok settled) m slot plan = holding m slot NoTransaction
-settled_by (Err f) m slot plan = m
+settled_by (Ok (Committed number registers)) m k plan = record (holding m k NoTransaction) { committed = m.committed ++ plan ∷ [] }
+settled_by (Ok settled) m k plan = holding m k NoTransaction
+settled_by (Err f) m k plan = m
 
 -- A plan that has ended is answered by its verdict on the present state, while the values that it read are the present ones.
 abbrev pub settle_result : Program → AttemptModel → WorldModel → ℕ → Reply × WorldModel
-settle_result program NoTransaction m slot = (reply.Idle, m)
-settle_result program (Begun plan reads answered) m slot = (reply.Idle, m)
-settle_result program (Ended plan reads) m slot =
+settle_result program NoTransaction m k = (reply.Idle, m)
+settle_result program (Begun plan reads answered) m k = (reply.Idle, m)
+settle_result program (Ended plan reads) m k =
     let answer = judged (is_closed m.session) (present program m) m.durable reads (verdict program plan (present program m)) in
-    (reply_of answer, settled_by answer m slot plan)
+    (reply_of answer, settled_by answer m k plan)
 
 -- the records that are not durable, the oldest first
 abbrev pub not_durable : Program → WorldModel → List Effect
@@ -233,9 +233,9 @@ InSession _ m r m' allowed = allowed
 
 -- In this run the event may be answered so, and leads to that run.
 abbrev pub Allows : Setting → WorldModel → Event → Reply → WorldModel → Type 0
-Allows set m (event.Begin slot tx) r m' = InSession m.session m r m' (AllowsBegin set m slot tx r m')
-Allows set m (event.Turn slot) r m' = InSession m.session m r m' (AllowsTurn set.program (attempt_at m slot) m slot r m')
-Allows set m (event.Settle slot) r m' = InSession m.session m r m' ((r, m') ≡ settle_result set.program (attempt_at m slot) m slot)
+Allows set m (event.Begin k tx) r m' = InSession m.session m r m' (AllowsBegin set m k tx r m')
+Allows set m (event.Turn k) r m' = InSession m.session m r m' (AllowsTurn set.program (attempt_at m k) m k r m')
+Allows set m (event.Settle k) r m' = InSession m.session m r m' ((r, m') ≡ settle_result set.program (attempt_at m k) m k)
 Allows set m event.Flush r m' = InSession m.session m r m' (AllowsFlush set.program set.slots m.session m r m')
 Allows set m event.Checkpoint r m' = InSession m.session m r m' (AllowsCheckpoint m.session m r m')
 Allows set m event.Look r m' = InSession m.session m r m' ((r ≡ reply.Looked m.durable) × (m' ≡ m))
