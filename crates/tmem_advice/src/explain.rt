@@ -10,10 +10,10 @@ use crate::found::{
 };
 use crate::texts::{
     A_DEVICE, A_STORE, BEFORE_A_COPY, CUT_BEHIND_ITS_LOG, CUT_STORE, EMPTY_FILE, EMPTY_INPUT,
-    EMPTY_STORE, NO_ANSWERS, NO_CLOCK, NO_INPUT, NO_LINES, NO_OUTPUT, NO_SHAPE, NO_STORE, NONE_YET,
-    NOT_ANSWERED, NOT_BLANK, NOT_REGISTERED, ON_A_DEVICE, OTHER_TEXT, PLACED_OR_NOT, PLAYED,
-    SHORT_DEVICE, STORE_FOR_FILE, STORE_FOR_SHAPE, TEXT_UNREAD, TOO_SHORT, UNSEEN, UNSURE,
-    USE_THAT_COPY,
+    EMPTY_STORE, NO_ANSWERS, NO_CLOCK, NO_INPUT, NO_LINES, NO_OUTPUT, NO_SHAPE, NO_SHAPE_OF_STORE,
+    NO_STORE, NONE_YET, NOT_ANSWERED, NOT_BLANK, NOT_REGISTERED, ON_A_DEVICE, OTHER_TEXT,
+    PLACED_OR_NOT, PLAYED, SHORT_DEVICE, STORE_FOR_FILE, STORE_FOR_SHAPE, TEXT_UNREAD, TOO_SHORT,
+    UNSEEN, UNSURE, USE_THAT_COPY,
 };
 use std::alloc::Global;
 use std::fmt::Display;
@@ -345,31 +345,41 @@ fn tell_no_shape<E: Write>(
     err: &mut E,
 ) -> io::Result<()> {
     match asked {
-        Asked::Init(making) => tell_of_shape(rt, err, making.file.unwrap_or(""), STORE_FOR_FILE),
+        Asked::Init(making) => {
+            let path = making.file.unwrap_or("");
+            tell_of_shape(rt, err, path, STORE_FOR_FILE, NO_SHAPE)
+        }
         Asked::Serve(serving) => match serving.shape {
-            Some(path) => tell_of_shape(rt, err, path, STORE_FOR_SHAPE),
+            Some(path) => tell_of_shape(rt, err, path, STORE_FOR_SHAPE, NO_SHAPE_OF_STORE),
             None => match shape_beside(rt.alloc(), serving.store.unwrap_or("")) {
-                Ok(beside) => tell_of_shape(rt, err, beside.as_str(), STORE_FOR_SHAPE),
-                Err(_) => tell(err, NO_SHAPE),
+                Ok(beside) => tell_of_shape(
+                    rt,
+                    err,
+                    beside.as_str(),
+                    STORE_FOR_SHAPE,
+                    NO_SHAPE_OF_STORE,
+                ),
+                Err(_) => tell(err, NO_SHAPE_OF_STORE),
             },
         },
         _ => tell(err, NO_SHAPE),
     }
 }
 
-// Tells what to do with what has the path of a shape and is none; of a store it says this.
+// Tells what to do with what has the path of a shape and is none; of a store it says one text, and of anything else the other.
 fn tell_of_shape<E: Write>(
     rt: &(impl Files<File = File> + AllocGlobal),
     err: &mut E,
     path: &str,
     of_store: &str,
+    of_other: &str,
 ) -> io::Result<()> {
     if begins_as_store(rt, path) {
         return tell_path(err, path, of_store);
     }
     match flaw_of_text(rt, path) {
-        Some(flaw) => tell(err, format_args!("{path}: {flaw}; {NO_SHAPE}")),
-        None => tell_path(err, path, NO_SHAPE),
+        Some(flaw) => tell(err, format_args!("{path}: {flaw}; {of_other}")),
+        None => tell_path(err, path, of_other),
     }
 }
 

@@ -30,8 +30,10 @@ pub(crate) const EMPTY_FILE: &str = "the file is empty";
 
 pub(crate) const EMPTY_INPUT: &str = "standard input is empty";
 
-pub(crate) const NO_SHAPE: &str =
-    "no store was touched; correct that place, and try again; if it was the shape of a store, and what stood there is lost, put back the one that used the store last, as it was then (another may allow what that one forbids)";
+pub(crate) const NO_SHAPE: &str = "no store was touched; correct that place, and try again";
+
+pub(crate) const NO_SHAPE_OF_STORE: &str =
+    "no store was touched; correct that place, and try again; if what stood there is lost, put back the shape that used the store last, as it was then (another may allow what that one forbids)";
 
 pub(crate) const OTHER_TEXT: &str =
     "a shape stands beside its store, as STORE.json, and what has that path is not this one; check the path; only if there never was a store, move that shape away, or name another path";
