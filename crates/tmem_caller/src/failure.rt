@@ -1,7 +1,8 @@
 //! Why a row is not served, or calls are not all made.
 
 use std::alloc::{AllocError, AllocFailed};
-use std::{fmt, io};
+use std::fmt;
+use std::io::{self, ErrorKind};
 use tmem_fault::Fault;
 use tmem_forms::FormError;
 
@@ -69,7 +70,10 @@ impl From<FormError> for CallFailure {
 }
 
 impl From<io::Error> for CallFailure {
-    fn from(_: io::Error) -> CallFailure {
-        CallFailure::Io
+    fn from(error: io::Error) -> CallFailure {
+        match error.kind() {
+            ErrorKind::OutOfMemory => CallFailure::Refused(Fault::Memory),
+            _ => CallFailure::Io,
+        }
     }
 }

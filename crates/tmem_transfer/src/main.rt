@@ -26,8 +26,13 @@ fn main(rt: HostRuntime) -> Result<(), Fault> {
     let table = Table::of(alloc, vec![in alloc; balanced]?, 2)?;
     let outcome = transfer_in_new(alloc, table, Steps::of(Vec::new(alloc))?)?;
     let _ = println!(rt;
-        "the move is committed: {}, a loss: {}\nfound: {} and {}",
-        outcome.is_moved, outcome.is_lost, outcome.found.0, outcome.found.1
+        "the move is committed: {}, a loss: {}\ndurable {}, opened {}, found {} and {}",
+        outcome.is_moved,
+        outcome.is_lost,
+        outcome.durable,
+        outcome.opened,
+        outcome.found.0,
+        outcome.found.1
     );
     Ok(())
 }
@@ -39,6 +44,10 @@ struct Outcome {
     is_moved: bool,
     /// Whether the loss was.
     is_lost: bool,
+    /// How many transactions a flush made durable.
+    durable: u64,
+    /// How many the next opening found.
+    opened: u64,
     /// What the accounts have then.
     found: (i64, i64),
 }
@@ -64,14 +73,20 @@ fn transfer<D: Disk + Drop, T: Invariants + Drop, S: StoredSteps + Drop>(
 {
     let is_moved = commit(world, move_once(alloc)?)?;
     let is_lost = commit(world, write(alloc, 1, 0)?)?;
-    let _ = reply_or_fault(world.step(Event::Flush))?;
-    let _ = reply_or_fault(world.step(Event::Reopen))?;
+    let Reply::Durable(durable) = reply_or_fault(world.step(Event::Flush))? else {
+        return Err(Fault::Closed);
+    };
+    let Reply::Opened(opened) = reply_or_fault(world.step(Event::Reopen))? else {
+        return Err(Fault::Closed);
+    };
     if !world.is_open() {
         return Err(Fault::Closed);
     }
     Ok(Outcome {
         is_moved,
         is_lost,
+        durable,
+        opened,
         found: accounts(world),
     })
 }

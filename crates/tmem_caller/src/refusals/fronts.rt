@@ -234,7 +234,7 @@ fn say_values<R: Print>(rt: &R, values: &[i64]) {
 }
 
 // Calls that ask for no memory, to the end.
-fn end<N: StoreNaming, T: Invariants + Drop, R: Print + Wait>(
+fn end<N: StoreNaming, T: Invariants + Drop, R: Clock + Print + Wait>(
     rt: &R,
     front: &StoreFront<N, T>,
     looker: &mut Pass<N>,
@@ -243,13 +243,13 @@ fn end<N: StoreNaming, T: Invariants + Drop, R: Print + Wait>(
 {
     say_number(rt, "durable", front.flush_once(rt)?);
     front.checkpoint(rt)?;
-    say_line(rt, "checkpointed");
+    say_number(rt, "checkpoints", front.log(rt).checkpoints);
     say_number(rt, "durable", front.flush_with_room(rt)?);
     shut(rt, front, looker)
 }
 
-// Makes one more pass, and shuts the front.
-fn shut<N: StoreNaming, T: Invariants + Drop, R: Print + Wait>(
+// Makes one more pass, and shuts the front, in which nobody waits then.
+fn shut<N: StoreNaming, T: Invariants + Drop, R: Clock + Print + Wait>(
     rt: &R,
     front: &StoreFront<N, T>,
     looker: &mut Pass<N>,
@@ -260,6 +260,9 @@ fn shut<N: StoreNaming, T: Invariants + Drop, R: Print + Wait>(
     say_line(rt, "pass");
     front.shut(rt);
     say_line(rt, "shut");
+    if let Err(fault) = front.await_durable_within(rt, looker, u64::MAX, Duration::ZERO) {
+        say_fault(rt, fault);
+    }
     say_state(rt, front, looker);
     Ok(())
 }
