@@ -433,6 +433,50 @@ fn a_record_is_read_in_its_version(rt: HostRuntime) {
     assert!(rt; is_read(rt.alloc(), OVER_OLDER, 4, Two, &IN_SECOND));
 }
 
+/// That in the second version, each time with another length, number of records or last record.
+static NOT_IN_SECOND: &[Found<'static>] = &[
+    Found {
+        length: 35,
+        count: 1,
+        last: (&[], &["ordered"], &["nonneg"]),
+    },
+    Found {
+        length: 36,
+        count: 2,
+        last: (&[], &["ordered"], &["nonneg"]),
+    },
+    Found {
+        length: 36,
+        count: 1,
+        last: (&[(0, 0)], &["ordered"], &["nonneg"]),
+    },
+    Found {
+        length: 36,
+        count: 1,
+        last: (&[], &["order"], &["nonneg"]),
+    },
+    Found {
+        length: 36,
+        count: 1,
+        last: (&[], &["ordered"], &[]),
+    },
+];
+
+/// The first of them that is taken for what is read.
+fn mistaken(alloc: Global) -> Option<usize> {
+    for (row, found) in NOT_IN_SECOND.iter().enumerate() {
+        if is_read(alloc, OVER_OLDER, 4, Two, found) {
+            return Some(row);
+        }
+    }
+    None
+}
+
+#[test]
+fn a_record_is_read_as_no_other(rt: HostRuntime) {
+    assert_no_row_differs(&rt, mistaken(rt.alloc()));
+}
+
 /// 64 writes of 0, and 8 names that are checked and as many that are retired, of 16 letters each.
 static ZEROS: &[(u16, i64)] = &[
     (0, 0),

@@ -256,6 +256,11 @@ fn a_named_file_is_read_by_the_next_opening(rt: HostRuntime) {
     assert!(rt; is_well_done(rt, NAMING, OPENINGS));
 }
 
+#[test]
+fn a_step_that_is_not_so_is_seen(rt: HostRuntime) {
+    assert!(rt; !is_well_done(rt, &[], &[Step::Stand(1, true)]));
+}
+
 // An empty file is none of them.
 static REFUSALS: &[Step<'static>] = &[
     Step::OpenFails(Place::Folder),

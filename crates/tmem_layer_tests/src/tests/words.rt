@@ -85,9 +85,9 @@ fn is_printed(alloc: Global, fault: Fault, line: &str) -> bool {
     }
 }
 
-/// The first of 18 rows whose line is another.
+/// The first of 19 rows whose line is another, or behind the last of them.
 fn differing_line(alloc: Global) -> Option<usize> {
-    for row in 0..18 {
+    for row in 0..19 {
         match refusal_at(row) {
             Some((fault, line)) if is_printed(alloc, fault, line) => {}
             _ => return Some(row),
@@ -109,6 +109,7 @@ fn are_named(alloc: Global) -> bool {
 
 #[test]
 fn each_fault_has_its_line(rt: HostRuntime) {
-    assert_no_row_differs(&rt, differing_line(rt.alloc()));
+    let row = differing_line(rt.alloc());
+    assert!(rt; row == Some(18), "row {row:?}");
     assert!(rt; refusal_at(18).is_none() && are_named(rt.alloc()));
 }
