@@ -10,6 +10,7 @@ mod flushing;
 mod images;
 mod journals;
 mod limits;
+mod otherwise;
 mod pages;
 mod rows;
 mod spine;

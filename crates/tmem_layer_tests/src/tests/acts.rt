@@ -2,7 +2,6 @@
 use super::counting::CountDisk;
 use super::effects::are_spelled;
 use super::flushing::{flush, flush_two, holds_run, is_run_flushed};
-use super::rows::assert_no_row_differs;
 use std::alloc::{AllocGlobal, Global};
 use std::mem;
 use std::process::Abort;
@@ -694,52 +693,8 @@ fn word(fault: Fault) -> &'static str {
     }
 }
 
-/// Acts that are done to a new device, and others, none of which is answered so behind them.
-static OTHERWISE: &[(&'static [Act<'static>], &'static [Act<'static>])] = &[
-    (
-        &[Act::Makes(20000)],
-        &[Act::Opens(4, 2, Err("damaged")), Act::Opens(4, 2, Ok(0))],
-    ),
-    (
-        &[Act::Makes(512), Act::Writes(0, b"a"), Act::Writes(2, b"bc")],
-        &[
-            Act::Made(Some(1), 2, 0),
-            Act::Made(None, 1, 0),
-            Act::Made(None, 2, 1),
-            Act::MadeBytes(2),
-            Act::Wrote(&[(0, 1)]),
-            Act::Wrote(&[(0, 1), (2, 1)]),
-            Act::Wrote(&[(0, 1), (2, 2), (0, 0)]),
-        ],
-    ),
-    (
-        &[
-            Act::Makes(16896),
-            Act::Formats(200, 2, Ok(())),
-            Act::Opens(200, 2, Ok(0)),
-            Act::FlushesName("ab", Ok(1)),
-        ],
-        &[
-            Act::HoldsNames(&[]),
-            Act::HoldsNames(&["a"]),
-            Act::HoldsNames(&["ab", "b"]),
-        ],
-    ),
-    // variable 148 has 5, and variable 185 has 0
-    (
-        &[
-            Act::Makes(16896),
-            Act::Formats(200, 2, Ok(())),
-            Act::Opens(200, 2, Ok(0)),
-            Act::FlushesRun(5),
-            Act::HoldsRun(5),
-        ],
-        &[Act::HoldsRun(4), Act::HoldsRun(6)],
-    ),
-];
-
 /// Whether these acts are answered so, and none of the others then.
-fn are_told_apart(alloc: Global, acts: &[Act], others: &[Act]) -> bool {
+pub(super) fn are_told_apart(alloc: Global, acts: &[Act], others: &[Act]) -> bool {
     let Ok(disk) = made(alloc, 0) else {
         return false;
     };
@@ -756,18 +711,4 @@ fn are_told_apart(alloc: Global, acts: &[Act], others: &[Act]) -> bool {
         }
     }
     true
-}
-
-fn row_not_told_apart(alloc: Global) -> Option<usize> {
-    for (row, (acts, others)) in OTHERWISE.iter().enumerate() {
-        if !are_told_apart(alloc, acts, others) {
-            return Some(row);
-        }
-    }
-    None
-}
-
-#[test]
-fn an_act_that_is_answered_otherwise_is_seen(rt: HostRuntime) {
-    assert_no_row_differs(&rt, row_not_told_apart(rt.alloc()));
 }
