@@ -30,5 +30,6 @@ mod turns;
 mod values;
 mod versions;
 mod wakings;
+mod words;
 mod world_turns;
 mod worlds;

@@ -395,3 +395,12 @@ fn each_call_of_a_front_settles_each_form_at_each_limit(rt: HostRuntime) -> Resu
     play_new_store(&rt, alloc, table, stored_steps())?;
     Ok(())
 }
+
+#[test]
+fn what_has_a_number_in_a_register_does_not_see_nothing(rt: HostRuntime) -> Result<(), Fail> {
+    let mut registers = [0; 16];
+    registers[15] = 1;
+    let seen = Settled::Seen { at: 0, registers };
+    assert!(rt; end_settled(&seen, 0) == Ends::Otherwise);
+    Ok(())
+}

@@ -27,9 +27,9 @@ const ASKED: &[(u64, u64, bool, bool)] = &[
     (u64::MAX, 0, false, false),
 ];
 
-/// Whether a table of 64 neighbours gives these answers where a variable is -1, and whether the first false one of all is this
-/// one.
-fn finds(table: &Table, var: u16, first: usize) -> bool
+/// Whether a table of 64 neighbours gives these answers where a variable is -1, with this one as the first false one of what is
+/// asked, and whether the first false one of all is that one.
+fn finds(table: &Table, var: u16, first: usize, of_all: usize) -> bool
     requires { table.now.vars ≡ 64 }
 {
     let mut values = [0; 64];
@@ -44,7 +44,7 @@ fn finds(table: &Table, var: u16, first: usize) -> bool
             return false;
         }
     }
-    table.test_all(&values, u64::MAX, 0) == Some(first)
+    table.test_all(&values, u64::MAX, 0) == Some(of_all)
 }
 
 /// Whether it knows what is over which variable, and finds the first false one of that.
@@ -52,7 +52,7 @@ fn knows_neighbours(table: &Table) -> bool
     requires { table.now.vars ≡ 64 }
 {
     for (var, touching, first) in TOUCHING {
-        if *var >= 64 || table.touching(*var) != *touching || !finds(table, *var, *first) {
+        if *var >= 64 || table.touching(*var) != *touching || !finds(table, *var, *first, *first) {
             return false;
         }
     }
@@ -75,6 +75,9 @@ fn keeps_neighbours(rt: &impl Abort, alloc: Global) -> Result<(), Fault> {
     }
     let table = Table::of(alloc, entries, 64)?;
     assert!(rt; knows_neighbours(&table));
+    // the invariants 4 and 5 are over variable 5, so the first one is named by both
+    assert!(rt; !finds(&table, 5, 5, 4));
+    assert!(rt; !finds(&table, 5, 4, 5));
     Ok(())
 }
 
