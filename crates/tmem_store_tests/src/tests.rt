@@ -11,6 +11,7 @@ mod moves;
 mod names;
 mod no_closures;
 mod nodes;
+mod otherwise;
 mod paces;
 mod passes;
 mod playing;

@@ -5,11 +5,9 @@ ghost use Rattle.tmem_invariants.specs.Answers.{MayCall, HasMeaning};
 use super::worlds::{Played, commit, committed};
 use std::alloc::Global;
 use std::process::Abort;
-use std::test::Fail;
 use tmem_fault::{Fault, Name};
 use tmem_tables::{Invariant, Test};
 use tmem_tree::Tx;
-use tmem_world::{Event, Reply};
 
 /// A name for each number, ascending.
 pub(super) fn numbered(n: u8) -> Result<Name, Fault> {
@@ -118,40 +116,5 @@ pub(super) fn commit_all<W: Played>(
         assert!(rt; commits_eight(alloc, world, first, number, each)?);
     }
     assert!(rt; are_registered(world, matches!(each, Use::Registers))?);
-    Ok(())
-}
-
-/// A session that differs at the last name: that is registered where the others are not, and else it is not.
-#[derive(Drop)]
-struct AllButLast {
-    are_registered: bool,
-}
-
-impl Played for AllButLast {
-    fn step(&mut self, _event: Event) -> Reply {
-        Reply::Idle
-    }
-
-    fn play_list(&mut self, _events: Vec<Event>) -> Result<Vec<Reply>, Fault> {
-        Err(Fault::Closed)
-    }
-
-    fn knows(&self, name: &Name) -> Option<bool> {
-        // 2 * 26 + 11 is 63
-        let is_last = name.as_str() == "cl";
-        Some(is_last != self.are_registered)
-    }
-}
-
-#[test]
-fn the_last_name_is_asked_for_too(rt: HostRuntime) -> Result<(), Fail> {
-    let others = AllButLast {
-        are_registered: true,
-    };
-    assert!(&rt; !has_all(&others)?);
-    let last = AllButLast {
-        are_registered: false,
-    };
-    assert!(&rt; !has_none(&last)?);
     Ok(())
 }

@@ -1,10 +1,8 @@
 //! What the threads of a scene, its device and its steps tell one another.
 ghost use Rattle.std.specs.Prelude.{◌≡◌};
 
-use super::skipping::Skipping;
 use std::rt::Clock;
 use std::sync::atomic::{AtomicBool, AtomicU64, Ordering};
-use std::test::Fail;
 use std::thread::{self, yield_now};
 use std::time::Duration;
 
@@ -184,18 +182,4 @@ fn has_come_in_time<R: Clock>(rt: &R, counter: &AtomicU64, least: u64) -> bool {
         thread::sleep(rt, Duration::from_millis(1));
     }
     false
-}
-
-#[test]
-fn a_release_tells_where_a_sync_was_not_held_until_then(rt: HostRuntime) -> Result<(), Fail> {
-    let signals = Signals::new();
-    // no sleep by it lasts
-    let clock = Skipping::new(&rt, Duration::ZERO, 0);
-    signals.hold_syncs(2);
-    assert!(&rt; signals.release());
-    signals.meet_sync(&clock);
-    // one was released, and this is the second
-    signals.meet_sync(&clock);
-    assert!(&rt; !signals.release());
-    Ok(())
 }
