@@ -124,7 +124,7 @@ fn has_range(disk: &SimDisk, at: u64, count: u64) -> bool
     }
 }
 
-// The bytes that a read gives. The row is bad where the device has none there, or a fault is met.
+// The bytes that a read gives. The row is bad where the device has none there; a read that fails ends it.
 fn read(alloc: Global, disk: &mut SimDisk, at: u64, count: u64) -> Result<Vec<u8>, PlayFailure> {
     if !has_range(disk, at, count) {
         return Err(PlayFailure::NoRow);

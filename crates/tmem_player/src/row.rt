@@ -53,11 +53,11 @@ pub(crate) enum Touch {
     CrashNow(Fill),
     /// Starts the device again, if it has crashed.
     Restart,
-    /// Prints the bytes from this offset on, so many.
+    /// Prints so many bytes from this offset on.
     Bytes(u64, u64),
     /// Writes bytes from this offset on, and syncs.
     Write(u64, Vec<u8>),
-    /// Reads from the first offset on so many bytes, writes them from the second on, and syncs.
+    /// Reads so many bytes from the first offset on, writes them from the second on, and syncs.
     Copy(u64, u64, u64),
     /// Opens a journal on the device.
     Recover(Numbers),

@@ -248,7 +248,7 @@ fn end<N: StoreNaming, T: Invariants + Drop, R: Clock + Print + Wait>(
     shut(rt, front, looker)
 }
 
-// Makes one more pass, and shuts the front, in which nobody waits then.
+// Makes one more pass, and shuts the front. A wait after that is refused.
 fn shut<N: StoreNaming, T: Invariants + Drop, R: Clock + Print + Wait>(
     rt: &R,
     front: &StoreFront<N, T>,

@@ -29,7 +29,7 @@ pub(super) enum Act<'a> {
     Reads(u64, &'a [u8]),
     /// It holds these bytes from these offsets on and then those, and zeros elsewhere.
     HoldsBytes(&'a [(u64, &'a [u8])], &'a [(u64, &'a [u8])]),
-    /// A read from this offset on of so many bytes fails.
+    /// A read of so many bytes from this offset on fails.
     ReadFails(u64, usize),
     /// These bytes are written from this offset on.
     Writes(u64, &'a [u8]),
@@ -693,7 +693,7 @@ fn word(fault: Fault) -> &'static str {
     }
 }
 
-/// Whether these acts are answered so, and none of the others then.
+/// Whether these acts are so, and none of the others after them.
 pub(super) fn are_told_apart(alloc: Global, acts: &[Act], others: &[Act]) -> bool {
     let Ok(disk) = made(alloc, 0) else {
         return false;

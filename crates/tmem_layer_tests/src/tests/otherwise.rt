@@ -3,7 +3,7 @@ use super::acts::{Act, are_told_apart};
 use super::rows::assert_no_row_differs;
 use std::alloc::Global;
 
-/// Acts that are done to a new device, and others, none of which is answered so behind them.
+/// Acts that are done to a new device, and others, none of which is so after them.
 static OTHERWISE: &[(&'static [Act<'static>], &'static [Act<'static>])] = &[
     (
         &[Act::Makes(20000)],

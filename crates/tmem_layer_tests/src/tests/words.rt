@@ -85,7 +85,7 @@ fn is_printed(alloc: Global, fault: Fault, line: &str) -> bool {
     }
 }
 
-/// The first of 19 rows whose line is another, or behind the last of them.
+/// The first row whose line is another; 18, which is behind the last, where none is.
 fn differing_line(alloc: Global) -> Option<usize> {
     for row in 0..19 {
         match refusal_at(row) {

@@ -397,7 +397,7 @@ fn each_call_of_a_front_settles_each_form_at_each_limit(rt: HostRuntime) -> Resu
 }
 
 #[test]
-fn what_has_a_number_in_a_register_does_not_see_nothing(rt: HostRuntime) -> Result<(), Fail> {
+fn a_register_that_is_not_0_is_told_apart(rt: HostRuntime) -> Result<(), Fail> {
     let mut registers = [0; 16];
     registers[15] = 1;
     let seen = Settled::Seen { at: 0, registers };

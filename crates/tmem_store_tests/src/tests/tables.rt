@@ -27,8 +27,8 @@ const ASKED: &[(u64, u64, bool, bool)] = &[
     (u64::MAX, 0, false, false),
 ];
 
-/// Whether a table of 64 neighbours gives these answers where a variable is -1, with this one as the first false one of what is
-/// asked, and whether the first false one of all is that one.
+/// Whether a table of 64 neighbours gives these answers where a variable is -1: `first` is the first false one of what is asked, and
+/// `of_all` the first of all.
 fn finds(table: &Table, var: u16, first: usize, of_all: usize) -> bool
     requires { table.now.vars ≡ 64 }
 {

@@ -1,4 +1,4 @@
-//! Scenes of the words of scenes: each thread plays, and what is counted is told.
+//! Scenes that test the words of which scenes are made: each thread plays, and what is counted is told.
 use super::moves::Answer::{Committed, Holds, Number, Retried, Value};
 use super::moves::Move::{AddWithRoom, AddsAtMost, Fill, NeedsAtMost, Peek, TryCommit};
 use super::moves::Task;
