@@ -64,7 +64,7 @@ pub(crate) const SHORT_DEVICE: &str =
     "it is a block device, and too short for the store; look first whether it is the one, and begins at the right byte (lsblk, losetup -l); if a store was on it, make it as long as it was, and try again, before anything is written onto it; if that cannot be, copy its bytes to a file, and put an older copy, of the whole store, on another device that is long enough";
 
 pub(crate) const CUT_BEHIND_ITS_LOG: &str =
-    "check the path; its log ends in front of the place where it is cut off, so no transaction is missing if it lost its end alone (nothing in front of that was left out or filled with zeros, as by dd conv=noerror, ddrescue, fsck or truncate, and it is no copy of a store that was in use); only then do this in place of what is said next: end each program that uses it, copy it to a new file, its shape beside that if it has one (COPY.json), make the copy as long as the store";
+    "check the path; its log ends in front of the byte where it is cut off, so no transaction is missing if it lost its end alone (nothing in front of that was left out or filled with zeros, as by dd conv=noerror, ddrescue, fsck or truncate, and it is no copy of a store that was in use); only then do this in place of what is said next: end each program that uses it, copy it to a new file, its shape beside that if it has one (COPY.json), make the copy as long as the store";
 
 pub(crate) const USE_THAT_COPY: &str =
     "see by tmem show what it has, and use that copy alone from then on";

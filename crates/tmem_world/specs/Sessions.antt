@@ -49,7 +49,7 @@ pub record SessionCheckpoints {D T : Type 0} {d t : _} (old : Session D T d t) (
   pub journal : journals.Checkpoints old.journal answer new.journal
   pub waits : waiting_of new.core ≡ waiting_of old.core
 
--- What either does to the device, of which n bytes from a place on may be written, and what stays: the numbers, what was committed and
+-- What either does to the device, of which n bytes from `at` on may be written, and what stays: the numbers, what was committed and
 -- the table. A crash at any moment leaves what the journal said before that it may, or what it says afterwards.
 pub record CallsDevice {A D T : Type 0} {d t : _} (at n : ℕ) (old : Session D T d t) (answer : Result A Fault) (new : Session D T d t) : Type 0 where
   pub uses : Uses (journal_device old.journal) (journal_device new.journal) answer
