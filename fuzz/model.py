@@ -8,7 +8,7 @@ import struct
 OPEN = 0xA5
 # The version of the format that is written; and what the last byte of an image's header is in each version.
 NEWEST = 2
-MARKS = {1: 0, 2: 2}
+VERSION_BYTES = {1: 0, 2: 2}
 MOST = 2**64 - 1
 # Those that the program has, in its order: the variables that they are about, and what they say of their values.
 TABLE = {
@@ -60,7 +60,7 @@ def spelled(names):
 
 def header(generation, count, names, version=NEWEST):
     """An image's header behind its gate."""
-    return (struct.pack("<QQB", generation, count, len(names)) + spelled(names)).ljust(2046, b"\0") + bytes([MARKS[version]])
+    return (struct.pack("<QQB", generation, count, len(names)) + spelled(names)).ljust(2046, b"\0") + bytes([VERSION_BYTES[version]])
 
 
 def pages(layout, values):
@@ -163,7 +163,7 @@ class Opened:
         self.generation = found[self.copy]
         damaged_unless(self.generation >= 1)
         at = layout.image(self.copy)
-        found = [version for version, mark in MARKS.items() if mark == self.content[at + 2047]]
+        found = [version for version, byte in VERSION_BYTES.items() if byte == self.content[at + 2047]]
         damaged_unless(found and self.content[5] <= found[0] <= newest)
         self.version = found[0]
         reader = Reader(self.content[at + 9 : at + 2047])

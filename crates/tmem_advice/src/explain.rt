@@ -12,8 +12,8 @@ use crate::texts::{
     A_DEVICE, A_STORE, BEFORE_A_COPY, CUT_BEHIND_ITS_LOG, CUT_STORE, EMPTY_FILE, EMPTY_INPUT,
     EMPTY_STORE, NO_ANSWERS, NO_CLOCK, NO_INPUT, NO_LINES, NO_OUTPUT, NO_SHAPE, NO_SHAPE_OF_STORE,
     NO_STORE, NONE_YET, NOT_ANSWERED, NOT_BLANK, NOT_REGISTERED, ON_A_DEVICE, OTHER_TEXT,
-    PLACED_OR_NOT, PLAYED, SHORT_DEVICE, STORE_FOR_FILE, STORE_FOR_SHAPE, TEXT_UNREAD, TOO_SHORT,
-    UNSEEN, UNSURE, USE_THAT_COPY,
+    PLACED_OR_NOT, PLAYED, SHORT_DEVICE, STORE_FOR_FILE, STORE_FOR_SCRIPT, STORE_FOR_SHAPE,
+    TEXT_UNREAD, TOO_SHORT, UNSEEN, UNSURE, USE_THAT_COPY,
 };
 use std::alloc::Global;
 use std::fmt::Display;
@@ -323,8 +323,11 @@ fn tell_no_store<E: Write>(
     }
 }
 
-// Tells the first flaw of a script, and how many more there are.
+// Tells the first flaw of a text that is no script, and how many more there are; or that it is a store.
 fn tell_flaw<E: Write>(alloc: Global, text: &[u8], err: &mut E) -> io::Result<()> {
+    if block_of(text).is_ok() {
+        return tell(err, STORE_FOR_SCRIPT);
+    }
     let Ok(flaws) = flaws_in(alloc, text) else {
         return tell(err, FaultHelp(Fault::Memory));
     };

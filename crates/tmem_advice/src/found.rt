@@ -52,7 +52,7 @@ pub(crate) fn length_of_cut(
     }
 }
 
-/// Whether an opening refuses what is there as a store that something changed, or that a later version wrote.
+/// Whether an opening refuses what is there as a store that something changed, or that a later release wrote.
 pub(crate) fn is_damaged(rt: &(impl Files<File = File> + AllocGlobal), asked: Asked) -> bool {
     let Some((path, _)) = store_of(asked) else {
         return false;

@@ -80,6 +80,9 @@ pub(crate) const STORE_FOR_FILE: &str =
 pub(crate) const STORE_FOR_SHAPE: &str =
     "it is a store, and no shape; name the shape of the store to be served by --shape; no store was touched";
 
+pub(crate) const STORE_FOR_SCRIPT: &str =
+    "it is a store, and no script; name the script first, and the store by --disk; no store was touched";
+
 pub(crate) const A_DEVICE: &str = "it is a block device; add --in-place to make a store on it";
 
 pub(crate) const PLACED_OR_NOT: &str =

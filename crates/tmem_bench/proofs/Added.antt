@@ -18,7 +18,7 @@ use Rattle.tmem_tree.specs.declared.settled.Settled.TheVariants.{Committed, Seen
 use Rattle.tmem_core.specs.Program.{Program}
 use Rattle.tmem_core.specs.Verdict.{first_broken, committed}
 use Rattle.tmem_core.specs.SettleAnswer.{settle_answer, ending_answer, sound_answer, unless_refused, is_stale}
-use Rattle.tmem_spine.specs.declared.view.Entry.{Entry}
+use Rattle.tmem_spine.specs.declared.view.MarkedEffect.{MarkedEffect}
 use Rattle.tmem_spine.specs.History.{count}
 use Rattle.tmem_spine.specs.Views.{PassRoleView}
 use Rattle.tmem_seats.specs.Histories.{state_after_history, numbered}
@@ -104,7 +104,7 @@ settles start opening p tx old mid r settled was last = elim last [
   | inr held ↦ ∥∥₁_map held (λ h. (h.0, subst (λ (x : Result Settled Fault). SettlesPass start opening p h.0 old x mid) was h.2))
 ]
 
-prefix_count : (start : ℕ) (xs ys : List Entry) → IsPrefix xs ys → count start xs ≤ count start ys
+prefix_count : (start : ℕ) (xs ys : List MarkedEffect) → IsPrefix xs ys → count start xs ≤ count start ys
 prefix_count start xs ys begins = let shorter = IsPrefix-length xs ys begins in omega (arith, shorter)
 
 -- a transaction that was committed, and then awaited
@@ -119,7 +119,7 @@ one start opening p attempt old mid new settled n s is same later durable =
           ∙ (ap (λ (es : List Effect). old.own ++ numbered (count start s.before) es) (commits_one settled attempt.effect n is) ∙ ap (λ (k : ℕ). old.own ++ (k, attempt.effect) ∷ []) (sym at)));
       many = refl;
       durable = All-cons (λ (it : ℕ × Effect). it.0 < count start new.seen) (n, attempt.effect) [] durable (All-nil (λ (it : ℕ × Effect). it.0 < count start new.seen));
-      later = subst (λ (l : List Entry). count start l ≤ count start new.seen) (ap (λ (v : PassRoleView). v.seen) s.pass) (prefix_count start mid.seen new.seen later);
+      later = subst (λ (l : List MarkedEffect). count start l ≤ count start new.seen) (ap (λ (v : PassRoleView). v.seen) s.pass) (prefix_count start mid.seen new.seen later);
     }
 
 -- one that was not
@@ -130,7 +130,7 @@ none start opening p attempt old new settled s is = record {
   own = ap (λ (v : PassRoleView). v.own) s.pass ∙ ap (λ (es : List Effect). old.own ++ numbered (count start s.before) es) (commits_none settled attempt.effect is);
   many = refl;
   durable = All-nil (λ (it : ℕ × Effect). it.0 < count start new.seen);
-  later = subst (λ (l : List Entry). count start old.seen ≤ count start l) (sym (ap (λ (v : PassRoleView). v.seen) s.pass)) (omega arith);
+  later = subst (λ (l : List MarkedEffect). count start old.seen ≤ count start l) (sym (ap (λ (v : PassRoleView). v.seen) s.pass)) (omega arith);
 }
 
 -- nothing was done yet

@@ -4,7 +4,7 @@ use Rattle.tmem_builtins.specs.Builtins.{builtin_steps}
 use Rattle.tmem_builtins.specs.Invariants.{has_no_negative}
 use Rattle.tmem_core.specs.Program.{Program}
 use Rattle.tmem_bench.specs.declared.jobs.Act.{Act}
-use Rattle.tmem_bench.specs.declared.jobs.Act.TheVariants.{Add, AddMany, Transfer, TransferMany, WideMany, Look}
+use Rattle.tmem_bench.specs.declared.jobs.Act.TheVariants.{Add, AddMany, Transfer, TransferMany, WideMany, TwoReads}
 use Rattle.tmem_bench.specs.declared.jobs.Callers.{Callers}
 use Rattle.tmem_bench.specs.declared.jobs.Callers.TheVariants.{Alone, Beside}
 use Rattle.tmem_bench.specs.declared.store.StoreUse.{StoreUse}
@@ -19,7 +19,7 @@ variables_of Add = 1 ∷ 2 ∷ []
 variables_of AddMany = 1 ∷ 2 ∷ []
 variables_of Transfer = 1 ∷ 2 ∷ []
 variables_of TransferMany = 1 ∷ 2 ∷ []
-variables_of Look = 1 ∷ 2 ∷ []
+variables_of TwoReads = 1 ∷ 2 ∷ []
 
 -- after how many transactions a caller waits
 abbrev pub stride_of : Act → ℕ
@@ -28,7 +28,7 @@ stride_of Transfer = 1
 stride_of AddMany = 64
 stride_of TransferMany = 64
 stride_of WideMany = 64
-stride_of Look = 64
+stride_of TwoReads = 64
 
 -- how many callers there are
 abbrev pub callers_in : Callers → ℕ

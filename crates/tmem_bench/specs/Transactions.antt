@@ -7,7 +7,7 @@ use Rattle.tmem_tree.specs.declared.tx.Tx.{Tx}
 use Rattle.tmem_tree.specs.declared.tx.Tx.TheVariants.{Check, Read, Seq}
 use Rattle.tmem_tree.specs.Run.{Normal, put, write}
 use Rattle.tmem_bench.specs.declared.jobs.Act.{Act}
-use Rattle.tmem_bench.specs.declared.jobs.Act.TheVariants.{Add, AddMany, Transfer, TransferMany, WideMany, Look}
+use Rattle.tmem_bench.specs.declared.jobs.Act.TheVariants.{Add, AddMany, Transfer, TransferMany, WideMany, TwoReads}
 
 -- a variable gets so much more
 abbrev pub Adds : ℕ → ℤ → Tx → Type 0
@@ -44,4 +44,4 @@ Does AddMany tx = Adds 0 (pos 1) tx
 Does Transfer tx = MovesOne tx
 Does TransferMany tx = MovesOne tx
 Does WideMany tx = MovesOne tx
-Does Look tx = ReadsAccounts tx
+Does TwoReads tx = ReadsAccounts tx

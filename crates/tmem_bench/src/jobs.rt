@@ -50,7 +50,7 @@ pub enum Act {
     /// The same under an invariant over all variables.
     WideMany,
     /// Reads the accounts.
-    Look,
+    TwoReads,
 }
 
 impl Act {
@@ -62,7 +62,7 @@ impl Act {
             Act::Transfer => "transfer, each awaited",
             Act::TransferMany => "transfer, each 64th",
             Act::WideMany => "wide transfer, each 64th",
-            Act::Look => "two reads",
+            Act::TwoReads => "two reads",
         }
     }
 
@@ -72,7 +72,7 @@ impl Act {
             Act::Add | Act::AddMany => "add",
             Act::Transfer | Act::TransferMany => "transfer",
             Act::WideMany => "wide transfer",
-            Act::Look => "two reads",
+            Act::TwoReads => "two reads",
         }
     }
 
@@ -82,7 +82,7 @@ impl Act {
     {
         match self {
             Act::Add | Act::Transfer => 1,
-            Act::AddMany | Act::TransferMany | Act::WideMany | Act::Look => 64,
+            Act::AddMany | Act::TransferMany | Act::WideMany | Act::TwoReads => 64,
         }
     }
 
@@ -92,7 +92,8 @@ impl Act {
     {
         match self {
             Act::WideMany => &EACH,
-            Act::Add | Act::AddMany | Act::Transfer | Act::TransferMany | Act::Look => &ACCOUNTS,
+            Act::Add | Act::AddMany | Act::Transfer | Act::TransferMany | Act::TwoReads =>
+                &ACCOUNTS,
         }
     }
 
@@ -103,7 +104,7 @@ impl Act {
         match self {
             Act::Add | Act::AddMany => add_to(alloc, COUNTER, 1),
             Act::Transfer | Act::TransferMany | Act::WideMany => transfer(alloc),
-            Act::Look => two_reads(alloc),
+            Act::TwoReads => two_reads(alloc),
         }
     }
 }
@@ -145,7 +146,7 @@ pub struct Job {
     pub time: Duration,
 }
 
-const ACTS: [Act; 4] = [Act::Add, Act::AddMany, Act::Transfer, Act::Look];
+const ACTS: [Act; 4] = [Act::Add, Act::AddMany, Act::Transfer, Act::TwoReads];
 
 const CALLERS: [Callers; 5] = [
     Callers::Alone,

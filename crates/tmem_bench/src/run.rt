@@ -5,7 +5,7 @@ ghost use Rattle.std.specs.Duration.{as_nanos};
 ghost use Rattle.tmem_bench.specs.Printed.{head, line, lines_wanted, printed, PrintsTable};
 ghost use Rattle.tmem_bench.specs.declared.device.Medium.TheVariants.{Memory};
 ghost use Rattle.tmem_bench.specs.declared.figures.Work.TheVariants.{OnCore, OnStore, SyncTwice};
-ghost use Rattle.tmem_bench.specs.declared.jobs.Act.TheVariants.{Look};
+ghost use Rattle.tmem_bench.specs.declared.jobs.Act.TheVariants.{TwoReads};
 
 use crate::device::{Medium, new_file, removed, two_syncs};
 use crate::error::BenchError;
@@ -182,10 +182,10 @@ fn run_beside_syncs<R: Clock + Files<File = File> + AllocGlobal + Threads + Wait
     sync_time: Duration,
 ) -> Result<(Figures, Option<Figures>), BenchError>
     ensures work { IfOk result (λ told. told.0.work ≡ OnStore job.act) }
-    ensures compared { medium.entry ≢ Memory → job.act ≢ Look → IfOk result (λ told. IsSomeAnd told.1 (λ other. other.work ≡ SyncTwice)) }
-    ensures alone { (medium.entry ≡ Memory) ⊎ (job.act ≡ Look) → IfOk result (λ told. told.1 ≡ None) }
+    ensures compared { medium.entry ≢ Memory → job.act ≢ TwoReads → IfOk result (λ told. IsSomeAnd told.1 (λ other. other.work ≡ SyncTwice)) }
+    ensures alone { (medium.entry ≡ Memory) ⊎ (job.act ≡ TwoReads) → IfOk result (λ told. told.1 ≡ None) }
 {
-    if medium.is_file() && job.act != Act::Look {
+    if medium.is_file() && job.act != Act::TwoReads {
         let before = two_syncs(rt, medium, sync_time)?;
         let had = run(rt, medium, job)?;
         let after = two_syncs(rt, medium, sync_time)?;

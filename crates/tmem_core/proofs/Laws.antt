@@ -9,4 +9,4 @@ pub use Rattle.tmem_core.proofs.Probed.{filled_by}
 -- the limits after what is committed
 pub use Rattle.tmem_core.proofs.Limits.{StaysWithin-taken}
 -- a program that follows on another
-pub use Rattle.tmem_core.proofs.Versions.{sound_after, same_order}
+pub use Rattle.tmem_core.proofs.Following.{sound_after, same_order}

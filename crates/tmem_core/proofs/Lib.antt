@@ -12,7 +12,7 @@ pub mod Present
 pub mod Probed
 pub mod Rings
 pub mod Windows
-pub mod Versions
+pub mod Following
 pub mod SettleAnswers
 pub mod Taken
 pub mod Trials

@@ -10,7 +10,7 @@ use Rattle.tmem_effect.specs.State.{State, apply, fold}
 use Rattle.tmem_effect.specs.declared.effect.Effect.{Effect}
 use Rattle.tmem_effect.proofs.Laws.{has_name-apply, without_names-filter}
 use Rattle.tmem_core.specs.Verdict.{serial_state, serial_effects}
-use Rattle.tmem_core.specs.Versions.{NamesOnlyGrow}
+use Rattle.tmem_core.specs.Following.{NamesOnlyGrow}
 use Rattle.tmem_core.proofs.SerialLaws.{serial_state-fold}
 
 -- the names that these effects register

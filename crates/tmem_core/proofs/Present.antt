@@ -6,7 +6,7 @@ use Rattle.std.proofs.lemmas.Option.{get_or_from_slice_get}
 use Rattle.std.proofs.lemmas.Bool.{eqb-true}
 use Rattle.std.proofs.lemmas.Bool.Decides.{Decides-int_eq}
 use Rattle.tmem_effect.specs.State.{State}
-use Rattle.tmem_effect.specs.Writes.{look}
+use Rattle.tmem_effect.specs.Writes.{value_in}
 use Rattle.tmem_tentative.specs.Right.{Agrees}
 use Rattle.tmem_core.specs.SettleAnswer.{is_stale}
 use Rattle.tmem_core.specs.Verdict.{map_of}
@@ -38,6 +38,6 @@ agrees s (r ∷ rs) fresh var n is =
     apart true e h = ((Decides-int_eq (map_of s r.0) r.1).0 e, h)
     apart false e h = cc
 
-    on : (b : Bool) → nat_eq var r.0 ≡ b → map_of s r.0 ≡ r.1 → (look rs var ≡ Some n → map_of s var ≡ n) → cond b (Some r.1) (look rs var) ≡ Some n → map_of s var ≡ n
+    on : (b : Bool) → nat_eq var r.0 ≡ b → map_of s r.0 ≡ r.1 → (value_in rs var ≡ Some n → map_of s var ≡ n) → cond b (Some r.1) (value_in rs var) ≡ Some n → map_of s var ≡ n
     on true e here rest h = let same : r.1 ≡ n = cc in ap (map_of s) (eqb-true var r.0 e) ∙ here ∙ same
     on false e here rest h = rest h

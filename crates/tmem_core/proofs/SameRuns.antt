@@ -8,7 +8,7 @@ use Rattle.tmem_tree.specs.Run.{View, RunResult, Normal, Retried, Aborted, Broke
 use Rattle.tmem_tree.specs.StepAnswers.{StepMeanings}
 use Rattle.tmem_tree.specs.Visited.{Ask, Visit, Probe, asks, asks_all, unwritten, then_ask, else_ask, probes_in}
 use Rattle.tmem_invariants.specs.Meanings.{Meanings, holds_on}
-use Rattle.tmem_core.specs.Versions.{MeansAs}
+use Rattle.tmem_core.specs.Following.{MeansAs}
 
 -- each name that is tested means the same
 abbrev pub AskAlike : Meanings → Meanings → List Ask → Type 0

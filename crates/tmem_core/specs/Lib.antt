@@ -8,4 +8,4 @@ pub mod SettleAnswer
 pub mod Settling
 pub mod Taking
 pub mod Verdict
-pub mod Versions
+pub mod Following

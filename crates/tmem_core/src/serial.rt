@@ -1,5 +1,5 @@
 // What holds of every serial order.
-ghost use Rattle.tmem_core.specs.Versions.{NamesOnlyGrow};
+ghost use Rattle.tmem_core.specs.Following.{NamesOnlyGrow};
 
 /// Where no transaction retires a name, names only grow: each one that was registered still is. It does nothing: a caller's proof
 /// takes the law from its contract.

@@ -6,7 +6,7 @@ use Rattle.tmem_fault.specs.declared.fault.Fault.{Fault}
 use Rattle.tmem_fault.specs.declared.fault.Fault.TheVariants as fault
 use Rattle.tmem_effect.specs.Prefix.{IsPrefix}
 use Rattle.tmem_seats.specs.Settling.{SeesMore}
-use Rattle.tmem_spine.specs.declared.view.Entry.{Entry}
+use Rattle.tmem_spine.specs.declared.view.MarkedEffect.{MarkedEffect}
 use Rattle.tmem_spine.specs.History.{count, longer}
 use Rattle.tmem_spine.specs.Views.{PassRoleView}
 use Rattle.tmem_answers.specs.declared.answer.Answer.{Answer}
@@ -76,7 +76,7 @@ pub looked : (s : Store) (old new : PassRoleView) (number : ℕ) → new ≡ rec
 looked s old new number is counts seen known = (
   counts,
   record {
-    pass = is ∙ ap (λ (l : List Entry). record old { seen = new.seen; known = l }) (sym (ap (λ (p : PassRoleView). p.known) is));
+    pass = is ∙ ap (λ (l : List MarkedEffect). record old { seen = new.seen; known = l }) (sym (ap (λ (p : PassRoleView). p.known) is));
     seen = seen;
     known = known;
   },

@@ -9,7 +9,7 @@ use Rattle.tmem_fault.specs.declared.fault.Fault.TheVariants as fault
 use Rattle.tmem_effect.specs.Prefix.{IsPrefix}
 use Rattle.tmem_effect.proofs.Laws.{IsPrefix-append, IsPrefix-self, IsPrefix-trans}
 use Rattle.tmem_core.specs.SettleAnswer.{committed_by}
-use Rattle.tmem_spine.specs.declared.view.Entry.{Entry}
+use Rattle.tmem_spine.specs.declared.view.MarkedEffect.{MarkedEffect}
 use Rattle.tmem_spine.specs.Views.{PassRoleView}
 use Rattle.tmem_seats.specs.Histories.{marked}
 use Rattle.tmem_tree.specs.declared.tx.Tx.{Tx}
@@ -46,7 +46,7 @@ same_keeps old new same = subst (λ (p : PassRoleView). Keeps old p) (sym same) 
 
 settles_keeps : (s : Store) (attempt : Attempt) (old : PassRoleView) (result : Result Settled Fault) (new : PassRoleView) → SettlesPass s.start s.opening s.program attempt old result new → Keeps old new
 settles_keeps s attempt old result new so =
-    subst (λ (l : List Entry). IsPrefix old.known l) (sym (ap (λ (p : PassRoleView). p.known) so.pass))
+    subst (λ (l : List MarkedEffect). IsPrefix old.known l) (sym (ap (λ (p : PassRoleView). p.known) so.pass))
     (IsPrefix-trans old.known so.before (so.before ++ marked old.mark (committed_by result attempt.effect)) so.begins (IsPrefix-append so.before (marked old.mark (committed_by result attempt.effect))))
 
 tx_keeps : (s : Store) (tx : Tx) (settled : Settled) (old new : PassRoleView) → SettlesTx s tx old settled new → Keeps old new
@@ -168,5 +168,5 @@ wakes_keeps s v w t =
 -- what is finished
 pub finished_keeps : (s : Store) (v w : DeskView) → Finishes s v w → IsPrefix v.pass.known w.pass.seen
 finished_keeps s v w f =
-    subst (λ (l : List Entry). IsPrefix v.pass.known l) (sym f.all)
+    subst (λ (l : List MarkedEffect). IsPrefix v.pass.known l) (sym f.all)
     (IsPrefix-trans v.pass.known f.woken.pass.known w.pass.known (wakes_keeps s v f.woken f.wakes) f.sees.known)

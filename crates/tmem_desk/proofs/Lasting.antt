@@ -11,8 +11,8 @@ use Rattle.tmem_fault.specs.declared.fault.Fault.TheVariants as fault
 use Rattle.tmem_effect.specs.State.{State, is_empty}
 use Rattle.tmem_effect.specs.declared.effect.Effect.{Effect}
 use Rattle.tmem_effect.proofs.Laws.{IsPrefix-length}
-use Rattle.tmem_spine.specs.declared.view.Entry.{Entry}
-use Rattle.tmem_spine.specs.History.{count, entry}
+use Rattle.tmem_spine.specs.declared.view.MarkedEffect.{MarkedEffect}
+use Rattle.tmem_spine.specs.History.{count, marked_effect}
 use Rattle.tmem_spine.specs.Views.{PassRoleView}
 use Rattle.tmem_tree.specs.declared.tx.Tx.{Tx}
 use Rattle.tmem_tree.specs.declared.settled.Settled.{Settled}
@@ -104,10 +104,10 @@ answer_numbered p shut s durable a =
     on false true answer is = tt
     on false false answer is = is
 
-settled_within : (start mark n : ℕ) (settled : Settled) (e : Effect) (before : List Entry) → IsNumbered n settled → n ≡ count start before
+settled_within : (start mark n : ℕ) (settled : Settled) (e : Effect) (before : List MarkedEffect) → IsNumbered n settled → n ≡ count start before
     → IsNumberedWithin (Ok settled) (count start (before ++ marked mark (committed settled e)))
-settled_within start mark n (Committed number registers) e before is at = omega (arith, length-append before (entry mark e ∷ []))
-settled_within start mark n (Seen number registers) e before is at = omega (arith, length-append {A = Entry} before [])
+settled_within start mark n (Committed number registers) e before is at = omega (arith, length-append before (marked_effect mark e ∷ []))
+settled_within start mark n (Seen number registers) e before is at = omega (arith, length-append {A = MarkedEffect} before [])
 settled_within start mark n Retry e before is at = tt
 settled_within start mark n (Aborted code) e before is at = tt
 settled_within start mark n (Refused name) e before is at = tt
@@ -147,7 +147,7 @@ told_and n m all more le is one = All-append (TellsAmong m) all more (told_still
 settled_reached : (s : Store) (attempt : Attempt) (settled : Settled) (old new : PassRoleView) → SettlesPass s.start s.opening s.program attempt old (Ok settled) new → IsNumberedWithin (Ok settled) (reached s new)
 settled_reached s attempt settled old new so =
     let n : ℕ = (state_after_history s.opening so.before).count in
-    let known : List Entry = so.before ++ marked old.mark (committed settled attempt.effect) in
+    let known : List MarkedEffect = so.before ++ marked old.mark (committed settled attempt.effect) in
     let numbered : IsNumbered n settled =
     subst (λ (r : Result Settled Fault). IfOk r (IsNumbered n)) (sym so.answered) (answer_numbered s.program so.is_shut (state_after_history s.opening so.before) so.durable attempt) in
     let within = settled_within s.start old.mark n settled attempt.effect so.before numbered so.number in

@@ -2,7 +2,7 @@
 use Rattle.std.proofs.Common.{◌≡◌, List, refl, ap, sym, ◌∙◌, subst}
 use Rattle.tmem_effect.specs.Prefix.{IsPrefix}
 use Rattle.tmem_effect.proofs.Laws.{IsPrefix-self, IsPrefix-trans}
-use Rattle.tmem_spine.specs.declared.view.Entry.{Entry}
+use Rattle.tmem_spine.specs.declared.view.MarkedEffect.{MarkedEffect}
 use Rattle.tmem_spine.specs.Views.{PassRoleView}
 use Rattle.tmem_seats.specs.Settling.{KnowsMore, SeesMore}
 
@@ -18,8 +18,8 @@ pub sees_by_knowing : (old new : PassRoleView) → KnowsMore old new → SeesMor
 sees_by_knowing old new more =
     let seen : new.seen ≡ old.seen = ap (λ (v : PassRoleView). v.seen) more.same in
     record {
-      pass = more.same ∙ ap (λ (l : List Entry). record old { seen = l; known = new.known }) (sym seen);
-      seen = subst (λ (l : List Entry). IsPrefix old.seen l) (sym seen) (IsPrefix-self old.seen);
+      pass = more.same ∙ ap (λ (l : List MarkedEffect). record old { seen = l; known = new.known }) (sym seen);
+      seen = subst (λ (l : List MarkedEffect). IsPrefix old.seen l) (sym seen) (IsPrefix-self old.seen);
       known = more.begins;
     }
 

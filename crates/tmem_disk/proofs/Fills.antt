@@ -1,4 +1,4 @@
--- What a crash makes of the marked bytes.
+-- What a crash makes of the unsynced bytes.
 use Rattle.std.proofs.Common.{◌≡◌, ℕ, zero, suc, ◌<◌, Bool, true, false, cond, List, [], ◌∷◌, length, take, set, get_or, refl, sym, ◌∙◌, ap, arith}
 use Rattle.std.proofs.lemmas.Bool.{false≢true}
 use Rattle.tmem_disk.specs.Sim.{LeftBy, stamped}
@@ -7,40 +7,40 @@ stamped-nil : (byte : ℕ) (bytes : List ℕ) → stamped byte bytes [] ≡ byte
 stamped-nil byte [] = refl
 stamped-nil byte (b ∷ bytes) = refl
 
--- one offset more, which is marked
-pub stamp_marked : (byte : ℕ) (bytes : List ℕ) (marks : List Bool) (i : ℕ) → i < length marks → i < length bytes → get_or marks i false ≡ true
-    → set (stamped byte bytes (take i marks)) i byte ≡ stamped byte bytes (take (suc i) marks)
-stamp_marked byte bytes [] i below within marked = absurd (omega arith)
-stamp_marked byte [] (m ∷ marks) i below within marked = absurd (omega arith)
-stamp_marked byte (b ∷ bytes) (true ∷ marks) zero below within marked = ap (λ (l : List ℕ). byte ∷ l) (sym (stamped-nil byte bytes))
-stamp_marked byte (b ∷ bytes) (false ∷ marks) zero below within marked = absurd (false≢true marked)
-stamp_marked byte (b ∷ bytes) (m ∷ marks) (suc i) below within marked = ap (λ (l : List ℕ). cond m byte b ∷ l) (stamp_marked byte bytes marks i (omega arith) (omega arith) marked)
+-- one offset more, which is unsynced
+pub stamp_unsynced : (byte : ℕ) (bytes : List ℕ) (unsynced : List Bool) (i : ℕ) → i < length unsynced → i < length bytes → get_or unsynced i false ≡ true
+    → set (stamped byte bytes (take i unsynced)) i byte ≡ stamped byte bytes (take (suc i) unsynced)
+stamp_unsynced byte bytes [] i below within is_unsynced = absurd (omega arith)
+stamp_unsynced byte [] (m ∷ unsynced) i below within is_unsynced = absurd (omega arith)
+stamp_unsynced byte (b ∷ bytes) (true ∷ unsynced) zero below within is_unsynced = ap (λ (l : List ℕ). byte ∷ l) (sym (stamped-nil byte bytes))
+stamp_unsynced byte (b ∷ bytes) (false ∷ unsynced) zero below within is_unsynced = absurd (false≢true is_unsynced)
+stamp_unsynced byte (b ∷ bytes) (m ∷ unsynced) (suc i) below within is_unsynced = ap (λ (l : List ℕ). cond m byte b ∷ l) (stamp_unsynced byte bytes unsynced i (omega arith) (omega arith) is_unsynced)
 
 -- one offset more, which is not
-pub stamp_unmarked : (byte : ℕ) (bytes : List ℕ) (marks : List Bool) (i : ℕ) → i < length marks → i < length bytes → get_or marks i false ≡ false
-    → stamped byte bytes (take i marks) ≡ stamped byte bytes (take (suc i) marks)
-stamp_unmarked byte bytes [] i below within unmarked = absurd (omega arith)
-stamp_unmarked byte [] (m ∷ marks) i below within unmarked = absurd (omega arith)
-stamp_unmarked byte (b ∷ bytes) (false ∷ marks) zero below within unmarked = ap (λ (l : List ℕ). b ∷ l) (sym (stamped-nil byte bytes))
-stamp_unmarked byte (b ∷ bytes) (true ∷ marks) zero below within unmarked = absurd (false≢true (sym unmarked))
-stamp_unmarked byte (b ∷ bytes) (m ∷ marks) (suc i) below within unmarked = ap (λ (l : List ℕ). cond m byte b ∷ l) (stamp_unmarked byte bytes marks i (omega arith) (omega arith) unmarked)
+pub stamp_synced : (byte : ℕ) (bytes : List ℕ) (unsynced : List Bool) (i : ℕ) → i < length unsynced → i < length bytes → get_or unsynced i false ≡ false
+    → stamped byte bytes (take i unsynced) ≡ stamped byte bytes (take (suc i) unsynced)
+stamp_synced byte bytes [] i below within is_synced = absurd (omega arith)
+stamp_synced byte [] (m ∷ unsynced) i below within is_synced = absurd (omega arith)
+stamp_synced byte (b ∷ bytes) (false ∷ unsynced) zero below within is_synced = ap (λ (l : List ℕ). b ∷ l) (sym (stamped-nil byte bytes))
+stamp_synced byte (b ∷ bytes) (true ∷ unsynced) zero below within is_synced = absurd (false≢true (sym is_synced))
+stamp_synced byte (b ∷ bytes) (m ∷ unsynced) (suc i) below within is_synced = ap (λ (l : List ℕ). cond m byte b ∷ l) (stamp_synced byte bytes unsynced i (omega arith) (omega arith) is_synced)
 
-length-stamped : (byte : ℕ) (bytes : List ℕ) (marks : List Bool) → length (stamped byte bytes marks) ≡ length bytes
-length-stamped byte [] marks = refl
+length-stamped : (byte : ℕ) (bytes : List ℕ) (unsynced : List Bool) → length (stamped byte bytes unsynced) ≡ length bytes
+length-stamped byte [] unsynced = refl
 length-stamped byte (b ∷ bytes) [] = refl
-length-stamped byte (b ∷ bytes) (m ∷ marks) = ap suc (length-stamped byte bytes marks)
+length-stamped byte (b ∷ bytes) (m ∷ unsynced) = ap suc (length-stamped byte bytes unsynced)
 
--- an unmarked offset keeps its byte
-stamped-unmarked : (byte : ℕ) (bytes : List ℕ) (marks : List Bool) (i : ℕ) → get_or marks i true ≡ false → get_or (stamped byte bytes marks) i 0 ≡ get_or bytes i 0
-stamped-unmarked byte [] marks i unmarked = refl
-stamped-unmarked byte (b ∷ bytes) [] i unmarked = refl
-stamped-unmarked byte (b ∷ bytes) (false ∷ marks) zero unmarked = refl
-stamped-unmarked byte (b ∷ bytes) (true ∷ marks) zero unmarked = absurd (false≢true (sym unmarked))
-stamped-unmarked byte (b ∷ bytes) (m ∷ marks) (suc i) unmarked = stamped-unmarked byte bytes marks i unmarked
+-- a synced offset keeps its byte
+stamped-synced : (byte : ℕ) (bytes : List ℕ) (unsynced : List Bool) (i : ℕ) → get_or unsynced i true ≡ false → get_or (stamped byte bytes unsynced) i 0 ≡ get_or bytes i 0
+stamped-synced byte [] unsynced i is_synced = refl
+stamped-synced byte (b ∷ bytes) [] i is_synced = refl
+stamped-synced byte (b ∷ bytes) (false ∷ unsynced) zero is_synced = refl
+stamped-synced byte (b ∷ bytes) (true ∷ unsynced) zero is_synced = absurd (false≢true (sym is_synced))
+stamped-synced byte (b ∷ bytes) (m ∷ unsynced) (suc i) is_synced = stamped-synced byte bytes unsynced i is_synced
 
--- a byte in each marked offset is one of the things that a crash may leave
-pub LeftBy-stamped : (byte : ℕ) (synced : List ℕ) (marks : List Bool) (present : List ℕ) → LeftBy synced marks present → LeftBy synced marks (stamped byte present marks)
-LeftBy-stamped byte synced marks present agrees = record {
-  size = length-stamped byte present marks ∙ agrees.size;
-  stays = λ i unmarked. stamped-unmarked byte present marks i unmarked ∙ agrees.stays i unmarked;
+-- a byte in each unsynced offset is one of the things that a crash may leave
+pub LeftBy-stamped : (byte : ℕ) (synced : List ℕ) (unsynced : List Bool) (present : List ℕ) → LeftBy synced unsynced present → LeftBy synced unsynced (stamped byte present unsynced)
+LeftBy-stamped byte synced unsynced present agrees = record {
+  size = length-stamped byte present unsynced ∙ agrees.size;
+  stays = λ i is_synced. stamped-synced byte present unsynced i is_synced ∙ agrees.stays i is_synced;
 }

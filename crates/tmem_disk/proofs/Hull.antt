@@ -1,4 +1,4 @@
--- What is left where nothing is marked, and by a sync that looks only at a range: it is enough that nothing outside the range is marked.
+-- What is left where nothing is unsynced, and by a sync that looks only at a range: it is enough that nothing outside the range is unsynced.
 use Rattle.std.proofs.Common.{◌≡◌, ⊎_elim, ℕ, zero, suc, ◌+◌, ◌-◌, ◌<◌, ◌≤◌, Bool, true, false, List, length, drop, get_or, replicate, refl, sym, ◌∙◌, ap, arith, length-drop}
 use Rattle.std.specs.Prelude.{slice_range}
 use Rattle.std.proofs.lemmas.List.{length-take-le, get_or-take, get_or-drop, get_or-replicate, get_or_default, length-replicate, same_lists}
@@ -7,25 +7,25 @@ use Rattle.tmem_disk.specs.Disk.{overwritten}
 use Rattle.tmem_disk.specs.Sim.{LeftBy}
 use Rattle.tmem_disk.proofs.Ranges.{length-overwritten, get_or-below, get_or-within, get_or-above}
 
--- of no marks none is set
-pub none_marked : (n i : ℕ) → get_or (replicate n false) i false ≡ false
-none_marked zero i = refl
-none_marked (suc n) zero = refl
-none_marked (suc n) (suc i) = none_marked n i
+-- of offsets that are synced each is
+pub none_unsynced : (n i : ℕ) → get_or (replicate n false) i false ≡ false
+none_unsynced zero i = refl
+none_unsynced (suc n) zero = refl
+none_unsynced (suc n) (suc i) = none_unsynced n i
 
 -- where none is set, a crash leaves the bytes as at the last sync alone
-pub left_once : (present synced c : List ℕ) (marks : List Bool) → synced ≡ present → marks ≡ replicate (length present) false → LeftBy synced marks c → c ≡ present
-left_once present synced c marks is none left = same_lists c present long (λ i d below.
+pub left_once : (present synced c : List ℕ) (unsynced : List Bool) → synced ≡ present → unsynced ≡ replicate (length present) false → LeftBy synced unsynced c → c ≡ present
+left_once present synced c unsynced is none left = same_lists c present long (λ i d below.
     let here : i < length present = omega (arith, long, below) in
-    let unmarked : get_or marks i true ≡ false = ap (λ (l : List Bool). get_or l i true) none ∙ get_or-replicate (length present) i false true here in
-    get_or_default c i d 0 below ∙ left.stays i unmarked ∙ ap (λ (l : List ℕ). get_or l i 0) is ∙ get_or_default present i 0 d here)
+    let is_synced : get_or unsynced i true ≡ false = ap (λ (l : List Bool). get_or l i true) none ∙ get_or-replicate (length present) i false true here in
+    get_or_default c i d 0 below ∙ left.stays i is_synced ∙ ap (λ (l : List ℕ). get_or l i 0) is ∙ get_or_default present i 0 d here)
   where
     long : length c ≡ length present
     long = left.size ∙ ap (λ (l : List ℕ). length l) is
 
-module _ (low high : ℕ) (marks : List Bool) (ordered : low ≤ high) (inside : high ≤ length marks) (before : (i : ℕ) → i < low → get_or marks i false ≡ false) (behind : (i : ℕ) → high ≤ i → get_or marks i false ≡ false) where
+module _ (low high : ℕ) (unsynced : List Bool) (ordered : low ≤ high) (inside : high ≤ length unsynced) (before : (i : ℕ) → i < low → get_or unsynced i false ≡ false) (behind : (i : ℕ) → high ≤ i → get_or unsynced i false ≡ false) where
   -- the bytes outside the range are those as at the last sync
-  pub synced_over : (synced present : List ℕ) → length marks ≡ length present → LeftBy synced marks present → overwritten synced low (slice_range present low high) ≡ present
+  pub synced_over : (synced present : List ℕ) → length unsynced ≡ length present → LeftBy synced unsynced present → overwritten synced low (slice_range present low high) ≡ present
   synced_over synced present long agrees = same_lists (overwritten synced low range) present (length-overwritten synced low range fits ∙ sym agrees.size) same
     where
       range : List ℕ
@@ -37,10 +37,10 @@ module _ (low high : ℕ) (marks : List Bool) (ordered : low ≤ high) (inside :
       fits : low + length range ≤ length synced
       fits = omega (arith, range_long, agrees.size)
 
-      kept : (i d : ℕ) → i < length synced → get_or marks i false ≡ false → get_or synced i d ≡ get_or present i d
+      kept : (i d : ℕ) → i < length synced → get_or unsynced i false ≡ false → get_or synced i d ≡ get_or present i d
       kept i d below none =
-          let unmarked : get_or marks i true ≡ false = get_or_default marks i true false (omega (arith, agrees.size)) ∙ none in
-          get_or_default synced i d 0 below ∙ sym (agrees.stays i unmarked) ∙ get_or_default present i 0 d (omega (arith, agrees.size))
+          let is_synced : get_or unsynced i true ≡ false = get_or_default unsynced i true false (omega (arith, agrees.size)) ∙ none in
+          get_or_default synced i d 0 below ∙ sym (agrees.stays i is_synced) ∙ get_or_default present i 0 d (omega (arith, agrees.size))
 
       same : (i d : ℕ) → i < length (overwritten synced low range) → get_or (overwritten synced low range) i d ≡ get_or present i d
       same i d below =
@@ -55,9 +55,9 @@ module _ (low high : ℕ) (marks : List Bool) (ordered : low ≤ high) (inside :
           (cases_lt i high))
           (cases_lt i low)
 
-  -- and once the marks of the range are cleared, none is left
-  pub cleared : (n : ℕ) → length marks ≡ n → overwritten marks low (replicate (high - low) false) ≡ replicate n false
-  cleared n long = same_lists (overwritten marks low none) (replicate n false) (length-overwritten marks low none fits ∙ long ∙ sym (length-replicate n false)) same
+  -- and once those of the range are synced, none is unsynced
+  pub cleared : (n : ℕ) → length unsynced ≡ n → overwritten unsynced low (replicate (high - low) false) ≡ replicate n false
+  cleared n long = same_lists (overwritten unsynced low none) (replicate n false) (length-overwritten unsynced low none fits ∙ long ∙ sym (length-replicate n false)) same
     where
       none : List Bool
       none = replicate (high - low) false
@@ -65,17 +65,17 @@ module _ (low high : ℕ) (marks : List Bool) (ordered : low ≤ high) (inside :
       none_long : length none ≡ high - low
       none_long = length-replicate (high - low) false
 
-      fits : low + length none ≤ length marks
+      fits : low + length none ≤ length unsynced
       fits = omega (arith, none_long)
 
-      same : (i : ℕ) (d : Bool) → i < length (overwritten marks low none) → get_or (overwritten marks low none) i d ≡ get_or (replicate n false) i d
+      same : (i : ℕ) (d : Bool) → i < length (overwritten unsynced low none) → get_or (overwritten unsynced low none) i d ≡ get_or (replicate n false) i d
       same i d below =
-          let here : i < length marks = omega (arith, length-overwritten marks low none fits) in
-          let unmarked : get_or (replicate n false) i d ≡ false = get_or-replicate n i false d (omega arith) in
+          let here : i < length unsynced = omega (arith, length-overwritten unsynced low none fits) in
+          let is_synced : get_or (replicate n false) i d ≡ false = get_or-replicate n i false d (omega arith) in
           ⊎_elim
-          (λ under. get_or-below marks low none fits i d under ∙ get_or_default marks i d false here ∙ before i under ∙ sym unmarked)
+          (λ under. get_or-below unsynced low none fits i d under ∙ get_or_default unsynced i d false here ∙ before i under ∙ sym is_synced)
           (λ from. ⊎_elim
-          (λ to. get_or-within marks low none fits i d from (omega (arith, none_long)) ∙ get_or-replicate (high - low) (i - low) false d (omega arith) ∙ sym unmarked)
-          (λ over. get_or-above marks low none fits i d (omega (arith, none_long)) ∙ get_or_default marks i d false here ∙ behind i over ∙ sym unmarked)
+          (λ to. get_or-within unsynced low none fits i d from (omega (arith, none_long)) ∙ get_or-replicate (high - low) (i - low) false d (omega arith) ∙ sym is_synced)
+          (λ over. get_or-above unsynced low none fits i d (omega (arith, none_long)) ∙ get_or_default unsynced i d false here ∙ behind i over ∙ sym is_synced)
           (cases_lt i high))
           (cases_lt i low)

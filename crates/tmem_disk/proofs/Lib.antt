@@ -2,7 +2,7 @@ pub mod Calls
 pub mod Fills
 pub mod Hull
 pub mod Laws
-pub mod Marks
+pub mod Unsynced
 pub mod Past
 pub mod Ranges
 pub mod Writing

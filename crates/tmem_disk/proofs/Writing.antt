@@ -6,7 +6,7 @@ use Rattle.tmem_disk.specs.declared.power.Fill.{Fill}
 use Rattle.tmem_disk.specs.declared.power.Power.{Power}
 use Rattle.tmem_disk.specs.Failing.{is_next}
 use Rattle.tmem_disk.specs.Power.{IsCrashed, IsArmed, writing, met_by_write, only_fails, unless_crashed}
-use Rattle.tmem_disk.specs.Sim.{Bytes, range_marked, bytes_written}
+use Rattle.tmem_disk.specs.Sim.{Bytes, range_unsynced, bytes_written}
 use Rattle.tmem_disk.specs.SimParts.{bytes_after_write}
 
 -- what runs goes on
@@ -14,11 +14,11 @@ unless_crashed-runs : {A : Type 0} (crashed : Option Fill) (before after : A) �
 unless_crashed-runs None before after runs = refl
 unless_crashed-runs (Some fill) before after runs = absurd (runs (search))
 
--- it marks its range alone where it only fails, else it is written
+-- its range is unsynced, with its bytes as they were, where it only fails; else it is written
 pub bytes_after_write-runs : (power : Power) (at : ℕ) (bytes : List ℕ) (b : Bytes) (fails : Bool) → ¬ IsCrashed power → only_fails at power ≡ fails
-    → bytes_after_write power at bytes b ≡ cond fails (range_marked at (length bytes) b) (bytes_written at bytes b)
+    → bytes_after_write power at bytes b ≡ cond fails (range_unsynced at (length bytes) b) (bytes_written at bytes b)
 bytes_after_write-runs power at bytes b fails runs is =
-    unless_crashed-runs power.crashed b (cond (only_fails at power) (range_marked at (length bytes) b) (bytes_written at bytes b)) runs ∙ ap (λ (v : Bool). cond v (range_marked at (length bytes) b) (bytes_written at bytes b)) is
+    unless_crashed-runs power.crashed b (cond (only_fails at power) (range_unsynced at (length bytes) b) (bytes_written at bytes b)) runs ∙ ap (λ (v : Bool). cond v (range_unsynced at (length bytes) b) (bytes_written at bytes b)) is
 
 left_of_and : (x y : Bool) → (x && y) ≡ true → IsTrue x
 left_of_and true y both = search

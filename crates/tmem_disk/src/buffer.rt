@@ -10,10 +10,10 @@ pub(crate) fn overwrite(buffer: &mut Vec<u8>, from: usize, bytes: &[u8])
     buffer[from..from + bytes.len()].copy_from_slice(bytes);
 }
 
-/// Sets so many marks from an offset on.
-pub(crate) fn set_marks(marks: &mut Vec<bool>, from: usize, count: usize, marked: bool)
-    requires { from + count ≤ length marks.old.items }
-    ensures { marks.new.items ≡ overwritten marks.old.items from (replicate count marked) }
+/// Sets whether so many bytes from an offset on are unsynced.
+pub(crate) fn set_unsynced(unsynced: &mut Vec<bool>, from: usize, count: usize, is_unsynced: bool)
+    requires { from + count ≤ length unsynced.old.items }
+    ensures { unsynced.new.items ≡ overwritten unsynced.old.items from (replicate count is_unsynced) }
 {
-    marks[from..from + count].fill(marked);
+    unsynced[from..from + count].fill(is_unsynced);
 }

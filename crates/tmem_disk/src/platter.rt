@@ -4,45 +4,45 @@ ghost use Rattle.std.specs.Prelude.{◌≡◌, ◌<◌, ◌≤◌, ◌+◌, ℕ,
 ghost use Rattle.tmem_disk.specs.Disk.{overwritten};
 ghost use Rattle.tmem_disk.specs.Sim.{LeftBy};
 
-use crate::buffer::{overwrite, set_marks};
+use crate::buffer::{overwrite, set_unsynced};
 use std::alloc::{AllocError, Global};
 use std::snapshot::Snapshot;
 
-/// What is on the disk: the bytes as at the last sync, and a mark for each byte that was written since.
+/// What is on the disk: the bytes as at the last sync, and which bytes were written since: these are unsynced.
 #[derive(Drop)]
 pub(crate) struct Platter {
     pub(crate) synced: Vec<u8>,
-    pub(crate) marks: Vec<bool>,
-    // All marked offsets are in the range from `first` on and below `end`, so a sync need not look at others.
+    pub(crate) unsynced: Vec<bool>,
+    // All unsynced offsets are in the range from `first` on and below `end`, so a sync need not look at others.
     first: usize,
     end: usize,
     ghost ordered: { first ≤ end },
-    ghost within: { end ≤ length marks.items },
-    ghost before: { (i : ℕ) → i < first → slice_index_or marks.items i false ≡ false },
-    ghost behind: { (i : ℕ) → end ≤ i → slice_index_or marks.items i false ≡ false },
+    ghost within: { end ≤ length unsynced.items },
+    ghost before: { (i : ℕ) → i < first → slice_index_or unsynced.items i false ≡ false },
+    ghost behind: { (i : ℕ) → end ≤ i → slice_index_or unsynced.items i false ≡ false },
 }
 
 impl Platter {
-    /// So many zeros, none of them marked.
+    /// So many zeros, none of them unsynced.
     pub(crate) fn new(alloc: Global, len: usize) -> Result<Platter, AllocError>
         ensures synced { IfOk result (λ platter. platter.synced.items ≡ replicate len 0) }
-        ensures marks { IfOk result (λ platter. platter.marks.items ≡ replicate len false) }
+        ensures unsynced { IfOk result (λ platter. platter.unsynced.items ≡ replicate len false) }
     {
         Ok(Platter {
             synced: vec![in alloc; 0; len]?,
-            marks: vec![in alloc; false; len]?,
+            unsynced: vec![in alloc; false; len]?,
             first: 0,
             end: 0,
         })
     }
 
-    /// Marks so many bytes from an offset on as written.
-    pub(crate) fn mark(&mut self, from: usize, count: usize)
-        requires { from + count ≤ length self.old.marks.items }
-        ensures marks { self.new.marks.items ≡ overwritten self.old.marks.items from (replicate count true) }
+    /// Leaves so many bytes from an offset on unsynced.
+    pub(crate) fn leave_unsynced(&mut self, from: usize, count: usize)
+        requires { from + count ≤ length self.old.unsynced.items }
+        ensures unsynced { self.new.unsynced.items ≡ overwritten self.old.unsynced.items from (replicate count true) }
         ensures synced { self.new.synced.items ≡ self.old.synced.items }
     {
-        set_marks(&mut self.marks, from, count, true);
+        set_unsynced(&mut self.unsynced, from, count, true);
         let end = from + count;
         if self.first == self.end {
             self.first = from;
@@ -53,31 +53,31 @@ impl Platter {
         }
     }
 
-    /// Makes these bytes the synced ones, with no mark. They differ from those at marked offsets alone.
+    /// Makes these bytes the synced ones, none of them unsynced. They differ from those before at unsynced offsets alone.
     pub(crate) fn sync(&mut self, present: &[u8])
-        requires long { length self.old.marks.items ≡ length present.now }
-        requires agrees { LeftBy self.old.synced.items self.old.marks.items present.now }
+        requires long { length self.old.unsynced.items ≡ length present.now }
+        requires agrees { LeftBy self.old.synced.items self.old.unsynced.items present.now }
         ensures synced { self.new.synced.items ≡ present.now }
-        ensures marks { self.new.marks.items ≡ replicate (length present.now) false }
+        ensures unsynced { self.new.unsynced.items ≡ replicate (length present.now) false }
         ensures clean { self.new.first ≡ self.new.end }
     {
         self.sync_range(self.first, self.end, present);
     }
 
-    // The same, looking only at a range that holds all marks.
+    // The same, looking only at a range that holds all unsynced offsets.
     fn sync_range(&mut self, low: usize, high: usize, present: &[u8])
         requires ordered { low ≤ high }
         requires inside { high ≤ length present.now }
-        requires before { (i : ℕ) → i < low → slice_index_or self.old.marks.items i false ≡ false }
-        requires behind { (i : ℕ) → high ≤ i → slice_index_or self.old.marks.items i false ≡ false }
-        requires long { length self.old.marks.items ≡ length present.now }
-        requires agrees { LeftBy self.old.synced.items self.old.marks.items present.now }
+        requires before { (i : ℕ) → i < low → slice_index_or self.old.unsynced.items i false ≡ false }
+        requires behind { (i : ℕ) → high ≤ i → slice_index_or self.old.unsynced.items i false ≡ false }
+        requires long { length self.old.unsynced.items ≡ length present.now }
+        requires agrees { LeftBy self.old.synced.items self.old.unsynced.items present.now }
         ensures synced { self.new.synced.items ≡ present.now }
-        ensures marks { self.new.marks.items ≡ replicate (length present.now) false }
+        ensures unsynced { self.new.unsynced.items ≡ replicate (length present.now) false }
         ensures clean { self.new.first ≡ self.new.end }
     {
         overwrite(&mut self.synced, low, &present[low..high]);
-        set_marks(&mut self.marks, low, high - low, false);
+        set_unsynced(&mut self.unsynced, low, high - low, false);
         self.first = 0;
         self.end = 0;
     }
@@ -95,7 +95,7 @@ impl PastMoments {
 
     /// One moment more.
     pub(crate) fn with(before: &PastMoments, platter: &Platter) -> PastMoments
-        ensures { moments_of result ≡ moments_of before.now ++ (platter.now.synced.items, platter.now.marks.items) ∷ [] }
+        ensures { moments_of result ≡ moments_of before.now ++ (platter.now.synced.items, platter.now.unsynced.items) ∷ [] }
     {
         PastMoments::After(Snapshot::of(platter), Snapshot::of(before))
     }

@@ -3,7 +3,7 @@ ghost use Rattle.std.specs.Prelude.{◌≡◌, ◌<◌, ◌≤◌, ◌+◌, ◌^
 ghost use Rattle.tmem_disk.specs.Disk.{IsCall, SameDevice, overwritten, ReadsAs, SameSeenOutside, Rewritten, LeavesOnly, LeavesEach, StillLeaves, IsSynced, Elapses};
 ghost use Rattle.tmem_disk.specs.Start.{IsNewDevice};
 ghost use Rattle.tmem_disk.specs.Power.{IsCrashed, fill_of, running, arming, arming_failure, crashed_with, restarted, reading, writing, syncing, power_after, Fails};
-ghost use Rattle.tmem_disk.specs.Sim.{LeftBy, blank, bytes_written, range_marked, synced_with, filled, stamped};
+ghost use Rattle.tmem_disk.specs.Sim.{LeftBy, blank, bytes_written, range_unsynced, synced_with, filled, stamped};
 
 use crate::buffer::overwrite;
 use crate::failures::Failures;
@@ -26,8 +26,8 @@ pub struct SimDisk {
     failures: Failures,
     power: Power,
     past: PastMoments,
-    ghost agrees: { LeftBy platter.synced.items platter.marks.items present.items },
-    ghost marked: { length platter.marks.items ≡ length present.items },
+    ghost agrees: { LeftBy platter.synced.items platter.unsynced.items present.items },
+    ghost long: { length platter.unsynced.items ≡ length present.items },
     ghost fits: { length present.items < 2 ^ 64 },
     ghost counted: { failures.count < 2 ^ 64 },
 }
@@ -166,11 +166,11 @@ impl SimDisk {
         ensures power { power_of self.new ≡ restarted (power_of self.old) }
     {
         let fill = self.power.restart();
-        fill_marked(&mut self.present, &self.platter, fill);
+        fill_unsynced(&mut self.present, &self.platter, fill);
         self.sync_all();
     }
 
-    // Writes over a range, and marks it.
+    // Writes over a range, which is unsynced then.
     fn store(&mut self, from: usize, bytes: &[u8])
         requires { from + length bytes.now ≤ length self.old.present.items }
         ensures bytes { sim_bytes self.new ≡ bytes_written from bytes.now (sim_bytes self.old) }
@@ -183,20 +183,20 @@ impl SimDisk {
         overwrite(&mut self.present, from, bytes);
     }
 
-    // Marks a range as written, and changes no byte that a read gives.
+    // Leaves a range unsynced, and changes no byte that a read gives.
     fn touch(&mut self, from: usize, count: usize)
         requires { from + count ≤ length self.old.present.items }
-        ensures bytes { sim_bytes self.new ≡ range_marked from count (sim_bytes self.old) }
+        ensures bytes { sim_bytes self.new ≡ range_unsynced from count (sim_bytes self.old) }
         ensures failures { self.new.failures ≡ self.old.failures }
         ensures power { self.new.power ≡ self.old.power }
         ensures crash { LeavesEach (sim_view self.new) (Rewritten from count (sim_view self.old)) }
         ensures time { Elapses (sim_view self.old) (sim_view self.new) (sim_view self.new).may_leave }
     {
         self.past = PastMoments::with(&self.past, &self.platter);
-        self.platter.mark(from, count);
+        self.platter.leave_unsynced(from, count);
     }
 
-    // Makes the bytes that a read gives the synced ones, with no mark.
+    // Makes the bytes that a read gives the synced ones, none of them unsynced.
     fn sync_all(&mut self)
         ensures bytes { sim_bytes self.new ≡ synced_with (sim_bytes self.old).present }
         ensures failures { self.new.failures ≡ self.old.failures }
@@ -209,28 +209,28 @@ impl SimDisk {
     }
 }
 
-// Gives the marked bytes their fill.
-fn fill_marked(present: &mut Vec<u8>, platter: &Platter, fill: Fill)
-    requires marked { length platter.now.marks.items ≡ length present.old.items }
-    requires agrees { LeftBy platter.now.synced.items platter.now.marks.items present.old.items }
-    ensures left { LeftBy platter.now.synced.items platter.now.marks.items present.new.items }
+// Gives the unsynced bytes their fill.
+fn fill_unsynced(present: &mut Vec<u8>, platter: &Platter, fill: Fill)
+    requires long { length platter.now.unsynced.items ≡ length present.old.items }
+    requires agrees { LeftBy platter.now.synced.items platter.now.unsynced.items present.old.items }
+    ensures left { LeftBy platter.now.synced.items platter.now.unsynced.items present.new.items }
     ensures filled { present.new.items ≡
-        filled fill (record { present = present.old.items; synced = platter.now.synced.items; marks = platter.now.marks.items }) }
+        filled fill (record { present = present.old.items; synced = platter.now.synced.items; unsynced = platter.now.unsynced.items }) }
 {
     match fill {
         Fill::Old => present.copy_from_slice(&platter.synced),
         Fill::New => {}
-        Fill::Byte(byte) => stamp(present, &platter.marks, byte),
+        Fill::Byte(byte) => stamp(present, &platter.unsynced, byte),
     }
 }
 
-// Writes a byte into each marked offset.
-fn stamp(present: &mut Vec<u8>, marks: &[bool], byte: u8)
-    requires { length marks.now ≡ length present.old.items }
-    ensures { present.new.items ≡ stamped byte present.old.items marks.now }
+// Writes a byte into each unsynced offset.
+fn stamp(present: &mut Vec<u8>, unsynced: &[bool], byte: u8)
+    requires { length unsynced.now ≡ length present.old.items }
+    ensures { present.new.items ≡ stamped byte present.old.items unsynced.now }
 {
-    for i in 0..marks.len() {
-        if marks[i] {
+    for i in 0..unsynced.len() {
+        if unsynced[i] {
             present[i] = byte;
         }
     }
@@ -279,7 +279,7 @@ impl Disk for SimDisk {
         ensures still { StillLeaves (sim_view self.old) (sim_view self.new) }
         ensures fails { IsErr result ↔ Fails (writing at) (power_of self.old) }
         ensures power { power_of self.new ≡ power_after (writing at) (power_of self.old) }
-        ensures marked { sim_bytes self.new ≡ bytes_after_write (power_of self.old) at bytes.now (sim_bytes self.old) }
+        ensures bytes { sim_bytes self.new ≡ bytes_after_write (power_of self.old) at bytes.now (sim_bytes self.old) }
     {
         if self.power.is_crashed() {
             self.failures.note(DeviceFault::Write);

@@ -10,7 +10,7 @@ pub use Rattle.tmem_effect.proofs.PrefixLaws.{IsPrefix-append, IsPrefix-rest, Is
 pub use Rattle.tmem_effect.proofs.NamesLaws.{has_name-with_names, AreAscending-with_names, AreDistinct-ascending, AreChecks-nil, AreChecks-push, AreRegistered-nil, AreRegistered-push, AreRegistered-with_names}
 pub use Rattle.tmem_effect.proofs.NamesRemoved.{has_name-without_name, has_name-without_names, without_names-filter, without_names-append, length-without_names, length-without_name-le, length-without_names-le, All-without_names, AreChecks-without_name, AreRegistered-without_name, AreRegistered-without_names, AreAscending-without_names, has_name-with_name, All-with_name, AreChecks-with_name, AreApart-none, apart_has, AreApart-check, AreApart-retire}
 -- lists of writes
-pub use Rattle.tmem_effect.proofs.WritesLaws.{is_some-look, AreWrites-push}
+pub use Rattle.tmem_effect.proofs.WritesLaws.{is_some-value_in, AreWrites-push}
 pub use Rattle.tmem_effect.proofs.NamesLaws.{AreRegistered-at_its_place, at_its_place-insert, length-with_names, room_for_next, with_names-next}
 pub use Rattle.tmem_effect.proofs.NamesRemoved.{without_names-next}
 pub use Rattle.tmem_effect.proofs.StateLaws.{written-next}

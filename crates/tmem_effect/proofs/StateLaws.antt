@@ -3,8 +3,8 @@ use Rattle.std.proofs.Common.{◌≡◌, ◌≢◌, ℕ, ◌+◌, ◌<◌, ◌�
 use Rattle.std.proofs.lemmas.Bool.Decides.{nat_tests}
 use Rattle.std.proofs.lemmas.List.{take_more, get_or-set_other, get_or-set_same, set_comm, set-set}
 use Rattle.tmem_fault.specs.Name.{IsName}
-use Rattle.tmem_effect.specs.State.{State, Effect, apply, fold, written, variables, look, with_write, has_name, without_names, AreDistinct, AreAscending, AreRegistered}
-use Rattle.tmem_effect.proofs.WritesLaws.{look-absent}
+use Rattle.tmem_effect.specs.State.{State, Effect, apply, fold, written, variables, value_in, with_write, has_name, without_names, AreDistinct, AreAscending, AreRegistered}
+use Rattle.tmem_effect.proofs.WritesLaws.{value_in-absent}
 use Rattle.tmem_effect.proofs.NamesLaws.{AllPairs-head, AllPairs-tail, has_name-with_names, AreAscending-with_names, AreRegistered-with_names}
 use Rattle.tmem_effect.proofs.NamesRemoved.{has_name-without_names, AreAscending-without_names, AreRegistered-without_names}
 
@@ -40,10 +40,10 @@ written-append values [] vs = refl
 written-append values (w ∷ ws) vs = written-append (slice_set values w.0 w.1) ws vs
 
 -- a variable that is not written is not the first one, nor among the rest
-look-parts : (w : ℕ × ℤ) (ws : List (ℕ × ℤ)) (var : ℕ) → IsNone (look (w ∷ ws) var) → (w.0 ≢ var) × IsNone (look ws var)
-look-parts w ws var none = by (var == w.0) refl none
+value_in-parts : (w : ℕ × ℤ) (ws : List (ℕ × ℤ)) (var : ℕ) → IsNone (value_in (w ∷ ws) var) → (w.0 ≢ var) × IsNone (value_in ws var)
+value_in-parts w ws var none = by (var == w.0) refl none
   where
-    by : (b : Bool) → (var == w.0) ≡ b → IsNone (cond b (Some w.1) (look ws var)) → (w.0 ≢ var) × IsNone (look ws var)
+    by : (b : Bool) → (var == w.0) ≡ b → IsNone (cond b (Some w.1) (value_in ws var)) → (w.0 ≢ var) × IsNone (value_in ws var)
     by true is h = cc
     by false is h = (λ same. differs same is, h)
       where
@@ -51,34 +51,34 @@ look-parts w ws var none = by (var == w.0) refl none
         differs same is' = grind (arith, nat_tests)
 
 -- a variable that is not written keeps its value
-pub written-other : (values : List ℤ) (ws : List (ℕ × ℤ)) (var : ℕ) (d : ℤ) → IsNone (look ws var) → get_or (written values ws) var d ≡ get_or values var d
+pub written-other : (values : List ℤ) (ws : List (ℕ × ℤ)) (var : ℕ) (d : ℤ) → IsNone (value_in ws var) → get_or (written values ws) var d ≡ get_or values var d
 written-other values [] var d none = refl
 written-other values (w ∷ ws) var d none =
-    let parts = look-parts w ws var none in
+    let parts = value_in-parts w ws var none in
     written-other (slice_set values w.0 w.1) ws var d parts.1 ∙ get_or-set_other values w.0 var w.1 d (λ same. parts.0 (sym same))
 
 -- a variable that is written once takes the value beside it
-pub written-look : (values : List ℤ) (ws : List (ℕ × ℤ)) (var : ℕ) (value d : ℤ) → AreDistinct (variables ws) → var < length values →
-    look ws var ≡ Some value → get_or (written values ws) var d ≡ value
-written-look values [] var value d distinct within found = cc
-written-look values (w ∷ ws) var value d distinct within found =
-    by (var == w.0) refl found (λ h. written-look (slice_set values w.0 w.1) ws var value d (AllPairs-tail (λ x y. x ≢ y) w.0 (variables ws) distinct) (rw (length-set values w.0 w.1) within) h)
+pub written-value_in : (values : List ℤ) (ws : List (ℕ × ℤ)) (var : ℕ) (value d : ℤ) → AreDistinct (variables ws) → var < length values →
+    value_in ws var ≡ Some value → get_or (written values ws) var d ≡ value
+written-value_in values [] var value d distinct within found = cc
+written-value_in values (w ∷ ws) var value d distinct within found =
+    by (var == w.0) refl found (λ h. written-value_in (slice_set values w.0 w.1) ws var value d (AllPairs-tail (λ x y. x ≢ y) w.0 (variables ws) distinct) (rw (length-set values w.0 w.1) within) h)
   where
-    by : (b : Bool) → (var == w.0) ≡ b → cond b (Some w.1) (look ws var) ≡ Some value →
-        (look ws var ≡ Some value → get_or (written (slice_set values w.0 w.1) ws) var d ≡ value) → get_or (written (slice_set values w.0 w.1) ws) var d ≡ value
+    by : (b : Bool) → (var == w.0) ≡ b → cond b (Some w.1) (value_in ws var) ≡ Some value →
+        (value_in ws var ≡ Some value → get_or (written (slice_set values w.0 w.1) ws) var d ≡ value) → get_or (written (slice_set values w.0 w.1) ws) var d ≡ value
     by true is h rest =
         let same : w.0 ≡ var = grind (arith, nat_tests) in
-        let apart = look-absent ws w.0 (λ k e below. λ eq. AllPairs-head (λ x y. x ≢ y) w.0 (variables ws) distinct k e below (sym eq)) in
+        let apart = value_in-absent ws w.0 (λ k e below. λ eq. AllPairs-head (λ x y. x ≢ y) w.0 (variables ws) distinct k e below (sym eq)) in
         let here : w.1 ≡ value = cc in
         rw (← same) (written-other (slice_set values w.0 w.1) ws w.0 d apart ∙ get_or-set_same values w.0 w.1 d (rw same within) ∙ here)
     by false is h rest = rest h
 
 -- setting a variable that is not written may come first or last
-written-set : (values : List ℤ) (ws : List (ℕ × ℤ)) (var : ℕ) (value : ℤ) → IsNone (look ws var) →
+written-set : (values : List ℤ) (ws : List (ℕ × ℤ)) (var : ℕ) (value : ℤ) → IsNone (value_in ws var) →
     written (slice_set values var value) ws ≡ slice_set (written values ws) var value
 written-set values [] var value none = refl
 written-set values (w ∷ ws) var value none =
-    let parts = look-parts w ws var none in
+    let parts = value_in-parts w ws var none in
     ap (λ vs. written vs ws) (set_comm values var w.0 value w.1 (λ same. parts.0 (sym same))) ∙ written-set (slice_set values w.0 w.1) ws var value parts.1
 
 -- a write more sets its variable
@@ -92,7 +92,7 @@ written-with_write values (w ∷ ws) var value distinct =
         written values (cond b ((var, value) ∷ ws) (w ∷ with_write ws var value)) ≡ slice_set (written (slice_set values w.0 w.1) ws) var value
     by true is rest =
         let same : w.0 ≡ var = grind (arith, nat_tests) in
-        let apart = look-absent ws w.0 (λ k e below. λ eq. AllPairs-head (λ x y. x ≢ y) w.0 (variables ws) distinct k e below (sym eq)) in
+        let apart = value_in-absent ws w.0 (λ k e below. λ eq. AllPairs-head (λ x y. x ≢ y) w.0 (variables ws) distinct k e below (sym eq)) in
         rw (← same) (ap (λ vs. written vs ws) (sym (set-set values w.0 w.1 value)) ∙ written-set (slice_set values w.0 w.1) ws w.0 value apart)
     by false is rest = rest
 

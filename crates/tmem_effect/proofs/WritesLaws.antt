@@ -1,4 +1,4 @@
--- Where a write stands, and what that place says of `look` and `with_write`.
+-- Where a write stands, and what that place says of `value_in` and `with_write`.
 use Rattle.std.proofs.Common.{◌≡◌, ◌≢◌, ℕ, ◌+◌, ◌<◌, ◌==◌, ℤ, Bool, true, false, not, cond, List, [], ◌∷◌, ◌++◌, length, get_or, set, Option, Some, None, is_some, IsNone, position, find, option_map, ◌||◌, nat_lt, All, refl, ap, sym, ◌∙◌, suc, zero, arith, length-append, length-set}
 use Rattle.std.proofs.Math.Numerals.{one-add}
 use Prim.Native.Nat.compare
@@ -9,7 +9,7 @@ use Rattle.std.proofs.lemmas.Bool.Decides.{nat_tests}
 use Rattle.std.proofs.lemmas.List.{map-append, map-set, set-get_or, get_or-map}
 use Rattle.std.proofs.lemmas.List.Elements.{All-push, All-set}
 use Rattle.std.proofs.lemmas.List.Quantifiers.{all_pairs_push, position-Some}
-use Rattle.tmem_effect.specs.Writes.{variables, look, with_write, AreWrites}
+use Rattle.tmem_effect.specs.Writes.{variables, value_in, with_write, AreWrites}
 
 abbrev writes_var : ℕ → ℕ × ℤ → Bool
 writes_var var w = var == w.0
@@ -34,22 +34,22 @@ with_write-cases (w ∷ ws) var value = step (var == w.0) (with_write-cases ws v
         cases false = refl
 
 -- the value beside a variable is that of the first write of it
-pub look-find : (ws : List (ℕ × ℤ)) (var : ℕ) → look ws var ≡ option_map (λ (w : ℕ × ℤ). w.1) (find (writes_var var) ws)
-look-find [] var = refl
-look-find (w ∷ ws) var = step (var == w.0) (look-find ws var)
+pub value_in-find : (ws : List (ℕ × ℤ)) (var : ℕ) → value_in ws var ≡ option_map (λ (w : ℕ × ℤ). w.1) (find (writes_var var) ws)
+value_in-find [] var = refl
+value_in-find (w ∷ ws) var = step (var == w.0) (value_in-find ws var)
   where
-    step : (b : Bool) → look ws var ≡ option_map (λ (w : ℕ × ℤ). w.1) (find (writes_var var) ws) →
-        cond b (Some w.1) (look ws var) ≡ option_map (λ (w : ℕ × ℤ). w.1) (cond b (Some w) (find (writes_var var) ws))
+    step : (b : Bool) → value_in ws var ≡ option_map (λ (w : ℕ × ℤ). w.1) (find (writes_var var) ws) →
+        cond b (Some w.1) (value_in ws var) ≡ option_map (λ (w : ℕ × ℤ). w.1) (cond b (Some w) (find (writes_var var) ws))
     step true h = refl
     step false h = h
 
 -- a variable has a value exactly if it is written
-pub is_some-look : (ws : List (ℕ × ℤ)) (var : ℕ) → is_some (look ws var) ≡ list_any (writes_var var) ws
-is_some-look [] var = refl
-is_some-look (w ∷ ws) var = step (var == w.0) (is_some-look ws var)
+pub is_some-value_in : (ws : List (ℕ × ℤ)) (var : ℕ) → is_some (value_in ws var) ≡ list_any (writes_var var) ws
+is_some-value_in [] var = refl
+is_some-value_in (w ∷ ws) var = step (var == w.0) (is_some-value_in ws var)
   where
-    step : (b : Bool) → is_some (look ws var) ≡ list_any (writes_var var) ws →
-        is_some (cond b (Some w.1) (look ws var)) ≡ (b || list_any (writes_var var) ws)
+    step : (b : Bool) → is_some (value_in ws var) ≡ list_any (writes_var var) ws →
+        is_some (cond b (Some w.1) (value_in ws var)) ≡ (b || list_any (writes_var var) ws)
     step true h = refl
     step false h = h
 
@@ -66,8 +66,8 @@ list_any-cases (w ∷ ws) var = step (var == w.0) (list_any-cases ws var)
     step false h = rw (h, one-add, compare.suc-suc) refl
 
 -- a variable that stands nowhere has no value
-pub is_some-look-none : (ws : List (ℕ × ℤ)) (var : ℕ) → position (writes_var var) ws ≡ None → IsNone (look ws var)
-is_some-look-none ws var none = is_some-look ws var ∙ list_any-cases ws var ∙ chosen (nat_lt (position_or_len (writes_var var) ws) (length ws)) none
+pub is_some-value_in-none : (ws : List (ℕ × ℤ)) (var : ℕ) → position (writes_var var) ws ≡ None → IsNone (value_in ws var)
+is_some-value_in-none ws var none = is_some-value_in ws var ∙ list_any-cases ws var ∙ chosen (nat_lt (position_or_len (writes_var var) ws) (length ws)) none
   where
     k : ℕ
     k = position_or_len (writes_var var) ws
@@ -99,25 +99,25 @@ with_write-none ws var value none = with_write-cases ws var value ∙ chosen (na
     chosen false h = refl
 
 -- a variable with no value is not written
-pub variables-apart : (ws : List (ℕ × ℤ)) (var : ℕ) → IsNone (look ws var) → All (λ v. v ≢ var) (variables ws)
+pub variables-apart : (ws : List (ℕ × ℤ)) (var : ℕ) → IsNone (value_in ws var) → All (λ v. v ≢ var) (variables ws)
 variables-apart [] var none k d below = elim below [ ]
 variables-apart (w ∷ ws) var none zero d below = λ same. first (var == w.0) (grind (arith, nat_tests)) none
   where
-    first : (b : Bool) → b ≡ true → IsNone (cond b (Some w.1) (look ws var)) → ⊥
+    first : (b : Bool) → b ≡ true → IsNone (cond b (Some w.1) (value_in ws var)) → ⊥
     first true e h = cc
     first false e h = cc
 variables-apart (w ∷ ws) var none (suc k) d below = variables-apart ws var (rest (var == w.0) none) k d (omega arith)
   where
-    rest : (b : Bool) → IsNone (cond b (Some w.1) (look ws var)) → IsNone (look ws var)
+    rest : (b : Bool) → IsNone (cond b (Some w.1) (value_in ws var)) → IsNone (value_in ws var)
     rest true h = cc
     rest false h = h
 
 -- a variable that is none of those has no value
-pub look-absent : (ws : List (ℕ × ℤ)) (var : ℕ) → All (λ v. v ≢ var) (variables ws) → IsNone (look ws var)
-look-absent [] var apart = refl
-look-absent (w ∷ ws) var apart = by (var == w.0) refl (look-absent ws var (λ k d below. apart (suc k) d (omega arith)))
+pub value_in-absent : (ws : List (ℕ × ℤ)) (var : ℕ) → All (λ v. v ≢ var) (variables ws) → IsNone (value_in ws var)
+value_in-absent [] var apart = refl
+value_in-absent (w ∷ ws) var apart = by (var == w.0) refl (value_in-absent ws var (λ k d below. apart (suc k) d (omega arith)))
   where
-    by : (b : Bool) → (var == w.0) ≡ b → IsNone (look ws var) → IsNone (cond b (Some w.1) (look ws var))
+    by : (b : Bool) → (var == w.0) ≡ b → IsNone (value_in ws var) → IsNone (cond b (Some w.1) (value_in ws var))
     by true is rest = absurd (apart 0 0 (omega arith) (grind (arith, nat_tests)))
     by false is rest = rest
 
@@ -131,7 +131,7 @@ AreWrites-at ws var at value found fits are =
     record { few = omega (arith, length-set ws at (var, value)); distinct = rw same are.distinct; fits = All-set (λ (w : ℕ × ℤ). FitsSigned w64 w.1) ws at (var, value) fits are.fits }
 
 -- so does a write of another, where there is room
-pub AreWrites-push : (ws : List (ℕ × ℤ)) (var : ℕ) (value : ℤ) → IsNone (look ws var) → length ws < 64 → FitsSigned w64 value → AreWrites ws → AreWrites (ws ++ (var, value) ∷ [])
+pub AreWrites-push : (ws : List (ℕ × ℤ)) (var : ℕ) (value : ℤ) → IsNone (value_in ws var) → length ws < 64 → FitsSigned w64 value → AreWrites ws → AreWrites (ws ++ (var, value) ∷ [])
 AreWrites-push ws var value none room fits are =
     record {
       few = omega (arith, length-append ws ((var, value) ∷ []));
@@ -140,13 +140,13 @@ AreWrites-push ws var value none room fits are =
     }
 
 -- a variable has the value of the last write of it
-pub look-with_write_same : (ws : List (ℕ × ℤ)) (var : ℕ) (value : ℤ) → look (with_write ws var value) var ≡ Some value
-look-with_write_same [] var value = own (var == var) (grind (arith, nat_tests))
+pub value_in-with_write_same : (ws : List (ℕ × ℤ)) (var : ℕ) (value : ℤ) → value_in (with_write ws var value) var ≡ Some value
+value_in-with_write_same [] var value = own (var == var) (grind (arith, nat_tests))
   where
     own : (b : Bool) → b ≡ true → cond b (Some value) None ≡ Some value
     own true is = refl
     own false is = cc
-look-with_write_same (w ∷ ws) var value = by (var == w.0) refl (look-with_write_same ws var value)
+value_in-with_write_same (w ∷ ws) var value = by (var == w.0) refl (value_in-with_write_same ws var value)
   where
     own : (b : Bool) (o : Option ℤ) → b ≡ true → cond b (Some value) o ≡ Some value
     own true o is = refl
@@ -156,35 +156,35 @@ look-with_write_same (w ∷ ws) var value = by (var == w.0) refl (look-with_writ
     other true o is h = cc
     other false o is h = h
 
-    by : (b : Bool) → (var == w.0) ≡ b → look (with_write ws var value) var ≡ Some value →
-        look (cond b ((var, value) ∷ ws) (w ∷ with_write ws var value)) var ≡ Some value
-    by true is h = own (var == var) (look ws var) (grind (arith, nat_tests))
-    by false is h = other (var == w.0) (look (with_write ws var value) var) is h
+    by : (b : Bool) → (var == w.0) ≡ b → value_in (with_write ws var value) var ≡ Some value →
+        value_in (cond b ((var, value) ∷ ws) (w ∷ with_write ws var value)) var ≡ Some value
+    by true is h = own (var == var) (value_in ws var) (grind (arith, nat_tests))
+    by false is h = other (var == w.0) (value_in (with_write ws var value) var) is h
 
 -- a write leaves the values of other variables
-pub look-with_write_other : (ws : List (ℕ × ℤ)) (var other : ℕ) (value : ℤ) → other ≢ var → look (with_write ws var value) other ≡ look ws other
-look-with_write_other [] var other value apart = skip (other == var) (grind (arith, nat_tests))
+pub value_in-with_write_other : (ws : List (ℕ × ℤ)) (var other : ℕ) (value : ℤ) → other ≢ var → value_in (with_write ws var value) other ≡ value_in ws other
+value_in-with_write_other [] var other value apart = skip (other == var) (grind (arith, nat_tests))
   where
     skip : (b : Bool) → b ≡ false → cond b (Some value) None ≡ None
     skip true is = cc
     skip false is = refl
-look-with_write_other (w ∷ ws) var other value apart = by (var == w.0) refl (look-with_write_other ws var other value apart)
+value_in-with_write_other (w ∷ ws) var other value apart = by (var == w.0) refl (value_in-with_write_other ws var other value apart)
   where
     skip : (b : Bool) (v : ℤ) (o : Option ℤ) → b ≡ false → cond b (Some v) o ≡ o
     skip true v o is = cc
     skip false v o is = refl
 
-    by : (b : Bool) → (var == w.0) ≡ b → look (with_write ws var value) other ≡ look ws other →
-        look (cond b ((var, value) ∷ ws) (w ∷ with_write ws var value)) other ≡ look (w ∷ ws) other
-    by true is h = skip (other == var) value (look ws other) (grind (arith, nat_tests)) ∙ sym (skip (other == w.0) w.1 (look ws other) (grind (arith, nat_tests)))
+    by : (b : Bool) → (var == w.0) ≡ b → value_in (with_write ws var value) other ≡ value_in ws other →
+        value_in (cond b ((var, value) ∷ ws) (w ∷ with_write ws var value)) other ≡ value_in (w ∷ ws) other
+    by true is h = skip (other == var) value (value_in ws other) (grind (arith, nat_tests)) ∙ sym (skip (other == w.0) w.1 (value_in ws other) (grind (arith, nat_tests)))
     by false is h = ap (λ o. cond (other == w.0) (Some w.1) o) h
 
 -- a write more leaves at most 64 writes of distinct variables, where there is room for it
-pub AreWrites-with_write : (ws : List (ℕ × ℤ)) (var : ℕ) (value : ℤ) → (IsNone (look ws var) → length ws < 64) → FitsSigned w64 value → AreWrites ws → AreWrites (with_write ws var value)
+pub AreWrites-with_write : (ws : List (ℕ × ℤ)) (var : ℕ) (value : ℤ) → (IsNone (value_in ws var) → length ws < 64) → FitsSigned w64 value → AreWrites ws → AreWrites (with_write ws var value)
 AreWrites-with_write ws var value room fits are = by (position (writes_var var) ws) refl
   where
     by : (at : Option ℕ) → position (writes_var var) ws ≡ at → AreWrites (with_write ws var value)
     by None is =
-        let absent = is_some-look-none ws var is in
+        let absent = is_some-value_in-none ws var is in
         rw (with_write-none ws var value is) (AreWrites-push ws var value absent (room absent) fits are)
     by (Some at) is = rw (with_write-at ws var at value is) (AreWrites-at ws var at value is fits are)

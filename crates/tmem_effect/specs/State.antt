@@ -2,7 +2,7 @@
 use Rattle.std.specs.Prelude.{ℕ, ◌+◌, ◌^◌, ◌<◌, ◌≤◌, ◌==◌, ℤ, pos, Bool, ◌&&◌, List, [], ◌∷◌, length, replicate, slice_set, All}
 use Rattle.std.proofs.Props.{props}
 pub use Rattle.tmem_effect.specs.declared.effect.Effect.{Effect}
-pub use Rattle.tmem_effect.specs.Writes.{variables, look, with_write, AreWrites}
+pub use Rattle.tmem_effect.specs.Writes.{variables, value_in, with_write, AreWrites}
 pub use Rattle.tmem_effect.specs.Names.{has_name, with_name, is_before, at_its_place, insert_name, with_names, without_name, without_names, AreApart, AreAscending, AreChecks, AreRegistered}
 pub use Rattle.tmem_fault.specs.Distinct.{AreDistinct}
 

@@ -10,8 +10,8 @@ abbrev pub variables : List (ℕ × ℤ) → List ℕ
 variables ws = map (λ (w : ℕ × ℤ). w.0) ws
 
 -- the value beside the first such variable
-abbrev pub look : List (ℕ × ℤ) → ℕ → Option ℤ
-look ws var = lookup (nat_eq var) ws
+abbrev pub value_in : List (ℕ × ℤ) → ℕ → Option ℤ
+value_in ws var = lookup (nat_eq var) ws
 
 -- with one write more: a variable keeps the place of its first write and takes the last value
 abbrev pub with_write : List (ℕ × ℤ) → ℕ → ℤ → List (ℕ × ℤ)

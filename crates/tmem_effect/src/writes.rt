@@ -1,7 +1,7 @@
 // The writes of a transaction.
 ghost use Rattle.std.specs.Prelude.{◌≡◌, ◌≤◌, ◌<◌, ◌==◌, [], length, IsNone, is_some, position, find, option_map};
 ghost use Rattle.std.specs.List.{list_any};
-ghost use Rattle.tmem_effect.specs.Writes.{look, with_write, AreWrites};
+ghost use Rattle.tmem_effect.specs.Writes.{value_in, with_write, AreWrites};
 
 use std::marker::Model;
 
@@ -49,21 +49,21 @@ impl Writes {
 
     /// The value that a variable takes, if it is written.
     pub fn get(&self, var: u16) -> Option<i64>
-        ensures { result ≡ look self.now var }
+        ensures { result ≡ value_in self.now var }
     {
         value(self.as_slice(), var)
     }
 
     /// Whether a variable is written.
     pub fn has(&self, var: u16) -> bool
-        ensures { result ≡ is_some (look self.now var) }
+        ensures { result ≡ is_some (value_in self.now var) }
     {
         is_written(self.as_slice(), var)
     }
 
     /// Writes a variable: it keeps the place of its first write.
     pub fn put(&mut self, var: u16, value: i64)
-        requires { IsNone (look self.old var) → length self.old < MAX_WRITES }
+        requires { IsNone (value_in self.old var) → length self.old < MAX_WRITES }
         ensures { self.new ≡ with_write self.old var value }
     {
         match index_of(&self.items[..self.len], var) {

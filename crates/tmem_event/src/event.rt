@@ -24,8 +24,8 @@ pub enum Event {
     Checkpoint,
     /// Asks how many committed transactions are known durable. Refused with `Closed`.
     Look,
-    /// Drops the session and all attempts, and opens the same device again. Refused with `Memory`, `Device`,
-    /// `NotFormatted`, `Damaged`, `Geometry`, `Spent`, `Missing`, `Broken`, and then no session stands.
+    /// Drops the core, the journal and all attempts, and opens the same device again. Refused with `Memory`, `Device`,
+    /// `NotFormatted`, `Damaged`, `Geometry`, `Spent`, `Missing`, `Broken`, and then there is no core.
     Reopen,
 }
 

@@ -18,9 +18,9 @@ fault_help fault.Unknown =
 fault_help fault.Full = codes "256 transactions wait to be durable; flush, and settle again"
 fault_help fault.LogFull = codes "every slot of the log is used; make a checkpoint, and flush again"
 fault_help fault.Conflict = codes "a value that the transaction read has changed; begin it again"
-fault_help fault.NotFormatted = codes "this does not begin as a store; check the path; only if a store was there, move this away, and put a copy in its place (what the copy lacks is lost); only if there never was one, make one at another path by tmem init"
+fault_help fault.NotFormatted = codes "this does not begin as a store; check the path; only if a store was there, move this away, and put a copy in its place (what the copy lacks is lost); only if there never was one, make one by tmem init, at another path or, on a block device, here by --in-place"
 fault_help fault.Damaged =
-    codes "the file is not as tmem leaves one: something else changed it, or a later version of tmem wrote it; run that version, or else move the file away and put a copy in its place (tmem does not repair it, and what the copy lacks is lost)"
+    codes "the file is not as tmem leaves one: something else changed it, or a later release of tmem wrote it; run that release, or else move the file away and put a copy in its place (tmem does not repair it, and what the copy lacks is lost)"
 fault_help (fault.Missing name) =
     codes "the invariant " ++ name ++ codes " is registered in the store, and this program or shape has none of this name; check the paths of the store and of the shape or script; if they are the ones, open the store with the program or shape that used it last, as that was then (a transaction there can retire it, unless that shape has it always); only if that had none of this name, too, something changed the file: move it away, and put a copy in its place (what the copy lacks is lost)"
 fault_help (fault.Broken name) =

@@ -31,9 +31,9 @@ impl fmt::Display for FaultHelp {
             Fault::LogFull => "every slot of the log is used; make a checkpoint, and flush again",
             Fault::Conflict => "a value that the transaction read has changed; begin it again",
             Fault::NotFormatted =>
-                "this does not begin as a store; check the path; only if a store was there, move this away, and put a copy in its place (what the copy lacks is lost); only if there never was one, make one at another path by tmem init",
+                "this does not begin as a store; check the path; only if a store was there, move this away, and put a copy in its place (what the copy lacks is lost); only if there never was one, make one by tmem init, at another path or, on a block device, here by --in-place",
             Fault::Damaged =>
-                "the file is not as tmem leaves one: something else changed it, or a later version of tmem wrote it; run that version, or else move the file away and put a copy in its place (tmem does not repair it, and what the copy lacks is lost)",
+                "the file is not as tmem leaves one: something else changed it, or a later release of tmem wrote it; run that release, or else move the file away and put a copy in its place (tmem does not repair it, and what the copy lacks is lost)",
             Fault::Missing(name) => return write_named(
                 f,
                 name,

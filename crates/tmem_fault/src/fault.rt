@@ -17,7 +17,7 @@ pub enum Fault {
     /// a read, or a write other than one that opens a gate. After a flush no record of the batch is durable.
     Device,
     /// The journal or the core was closed before, by a failure of the device or by whoever holds it, or there is no
-    /// session.
+    /// core.
     Closed,
     /// In a flush or a checkpoint a sync failed, or the write that opens a gate. After a flush, reopening finds the
     /// state with the whole batch or without it.

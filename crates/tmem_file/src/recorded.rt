@@ -107,14 +107,14 @@ impl RecordedFile {
                 Ok(())
             }
             Err(error) => {
-                self.note(&self.look(at, bytes.len() as u64));
+                self.note(&self.what_stands(at, bytes.len() as u64));
                 Err(error)
             }
         }
     }
 
     // What stands in a range in which a write failed.
-    fn look(&self, at: u64, count: u64) -> FileCall
+    fn what_stands(&self, at: u64, count: u64) -> FileCall
         requires { at + count < 2 ^ 64 }
         ensures { (earlier : List FileEvent) → Spoils at count earlier (event_of result ∷ earlier) }
     {

@@ -12,7 +12,7 @@ use Rattle.tmem_tree.specs.declared.settled.Settled.{Settled}
 use Rattle.tmem_tentative.specs.declared.attempt.Attempt.{Attempt}
 use Rattle.tmem_core.specs.Program.{Program}
 use Rattle.tmem_core.specs.SettleAnswer.{committed_by}
-use Rattle.tmem_spine.specs.declared.view.Entry.{Entry}
+use Rattle.tmem_spine.specs.declared.view.MarkedEffect.{MarkedEffect}
 use Rattle.tmem_spine.specs.History.{count}
 use Rattle.tmem_spine.specs.Views.{PassRoleView}
 use Rattle.tmem_seats.specs.Histories.{marked, numbered}
@@ -29,7 +29,7 @@ settles_later start opening program attempt old mid answer new more s = record {
   durable = s.durable;
   is_shut = s.is_shut;
   begins = IsPrefix-trans old.known mid.known s.before more.begins s.begins;
-  saw = subst (λ (l : List Entry). count start l ≤ s.durable) (ap (λ (v : PassRoleView). v.seen) more.same) s.saw;
+  saw = subst (λ (l : List MarkedEffect). count start l ≤ s.durable) (ap (λ (v : PassRoleView). v.seen) more.same) s.saw;
   number = s.number;
   answered = s.answered;
   verdict = s.verdict;
@@ -47,8 +47,8 @@ knows_more start opening program attempt old answer new none s =
     let own : old.own ++ numbered (count start s.before) (committed_by answer attempt.effect) ≡ old.own =
     ap (λ (es : List Effect). old.own ++ numbered (count start s.before) es) none ∙ append-nil old.own in
     record {
-      same = s.pass ∙ (ap (λ (o : List (ℕ × Effect)). record old { known = K; own = o }) own ∙ ap (λ (l : List Entry). record old { known = l }) (sym (ap (λ (v : PassRoleView). v.known) s.pass)));
-      begins = subst (λ (l : List Entry). IsPrefix old.known l) (sym known) s.begins;
+      same = s.pass ∙ (ap (λ (o : List (ℕ × Effect)). record old { known = K; own = o }) own ∙ ap (λ (l : List MarkedEffect). record old { known = l }) (sym (ap (λ (v : PassRoleView). v.known) s.pass)));
+      begins = subst (λ (l : List MarkedEffect). IsPrefix old.known l) (sym known) s.begins;
     }
 
 pub knows_still : (old : PassRoleView) → KnowsMore old old

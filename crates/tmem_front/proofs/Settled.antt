@@ -6,7 +6,7 @@ use Rattle.tmem_tree.specs.declared.settled.Settled.{Settled}
 use Rattle.tmem_tentative.specs.declared.attempt.Attempt.{Attempt}
 use Rattle.tmem_core.specs.Program.{Program}
 use Rattle.tmem_core.specs.SettleAnswer.{committed_by}
-use Rattle.tmem_spine.specs.declared.view.Entry.{Entry}
+use Rattle.tmem_spine.specs.declared.view.MarkedEffect.{MarkedEffect}
 use Rattle.tmem_spine.specs.History.{count}
 use Rattle.tmem_spine.specs.Views.{PassRoleView}
 use Rattle.tmem_seats.specs.Deciding.{Decides}
@@ -28,6 +28,6 @@ settles_as_decided start opening program attempt old pass answer new pass' d =
       number = d.number;
       answered = d.answered;
       verdict = d.verdict;
-      pass = d.knows ∙ ap (λ (l : List Entry). record pass { known = l; own = own }) d.committed;
-      sound = subst (λ (l : List Entry). IsSoundState program (state_after_history opening l)) (sym (ap (λ (v : PassRoleView). v.known) d.knows)) d.sound;
+      pass = d.knows ∙ ap (λ (l : List MarkedEffect). record pass { known = l; own = own }) d.committed;
+      sound = subst (λ (l : List MarkedEffect). IsSoundState program (state_after_history opening l)) (sym (ap (λ (v : PassRoleView). v.known) d.knows)) d.sound;
     }

@@ -365,10 +365,10 @@ impl<D: Disk + Drop, N: StoreNaming, T: Invariants + Drop, S: StoredSteps + Drop
         self.core.lock(rt).probe(probe)
     }
 
-    /// How often calls that wait have looked at what they wait for. One that sleeps looks once each time that it is woken.
-    pub fn looks<R: Wait>(&self, rt: &R) -> u64 {
-        let looks = self.core.lock(rt).looks();
-        looks.wrapping_add(self.pool.lock(rt).looks)
+    /// How often calls that wait have tried what they wait for. One that sleeps tries once each time that it is woken.
+    pub fn tries<R: Wait>(&self, rt: &R) -> u64 {
+        let tries = self.core.lock(rt).tries();
+        tries.wrapping_add(self.pool.lock(rt).tries)
     }
 
     /// The plan of a transaction. Refused with `BadPlan` and the least cause for which it is outside the limits.

@@ -133,7 +133,7 @@ impl<D: Disk + Drop, T: Invariants + Drop, S: StoredSteps + Drop> OpenedFront<D,
                 free: Vec::new(alloc),
                 owned: 0,
                 is_closed: false,
-                looks: 0,
+                tries: 0,
             }),
             returned: Returned::new(),
         }

@@ -25,16 +25,16 @@ pub(crate) struct Pool<N: Naming> {
     // nobody waits for one any more
     pub(crate) is_closed: bool,
     // how often whoever waits for one has looked
-    pub(crate) looks: u64,
+    pub(crate) tries: u64,
 }
 
 impl<N: Naming> Pool<N> {
     // Whether nobody waits any more. The look is counted.
     fn has_ended(&mut self) -> bool
         ensures ended { result ≡ self.new.is_closed }
-        ensures same { self.new ≡ record self.old { looks = self.new.looks } }
+        ensures same { self.new ≡ record self.old { tries = self.new.tries } }
     {
-        self.looks = self.looks.wrapping_add(1);
+        self.tries = self.tries.wrapping_add(1);
         self.is_closed
     }
 

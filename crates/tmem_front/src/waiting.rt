@@ -41,7 +41,7 @@ struct Turn {
     waits_for_room: bool,
 }
 
-// How often a caller looks before it sleeps. To wake a thread takes about as long as a flush of a fast disk.
+// How often a caller tries before it sleeps. To wake a thread takes about as long as a flush of a fast disk.
 const LOOKS: u32 = 100;
 
 impl<D: Disk + Drop, N: StoreNaming, T: Invariants + Drop, S: StoredSteps + Drop> Front<

@@ -6,7 +6,7 @@ use Rattle.std.proofs.lemmas.Bool.{cases_eq}
 use Rattle.tmem_disk.specs.Disk.{DeviceView, IsDevice, overwritten, ReadsAs, LeavesOnly, AtEachMoment, Elapses, SameOutside, SameSeenOutside, Rewritten}
 use Rattle.tmem_disk.proofs.Laws.{SameOutside-refl, SameOutside-trans, SameOutside-wider, slice_get-before, slice_get-after, slice_range-before, slice_range-after, slice_range-overwritten, Rewritten-left, Rewritten-wider, Rewritten-trans, Elapses-more, Elapses-trans, before_or_since-trans}
 use Rattle.tmem_gate.specs.Gate.{IsOpenAt, IsClosed, HasBody, IsOpenOver, IsWhole}
-use Rattle.tmem_gate.specs.Calls.{LooksOnly, WritesWithin}
+use Rattle.tmem_gate.specs.Calls.{OnlyReads, WritesWithin}
 use Rattle.tmem_gate.specs.Changes.{Outcome, WasMade, NotMade, InDoubt, NotBegun, Becomes, Meanwhile, Puts}
 
 -- a gate is open or closed
@@ -105,9 +105,9 @@ module _ (at n : ℕ) (old new : DeviceView) (device : IsDevice old) (model : ne
   by_write seen crash time = by_time seen crash (Elapses-more old new new.may_leave (Rewritten at n old) time crash.each)
 
   -- that writes nothing
-  pub by_look : LooksOnly old new → WritesWithin at n old new
-  by_look looks = by_time (λ k. subst (λ (l : List ℕ). SameOutside at n old.seen l) (sym (looks.seen k)) (SameOutside-refl at n old.seen)) (record { each = λ k c left. Rewritten-left at n old c (looks.crash.each k c left) })
-      (Elapses-more old new _ _ looks.time (λ k. Rewritten-left at n old))
+  pub by_look : OnlyReads old new → WritesWithin at n old new
+  by_look reads_only = by_time (λ k. subst (λ (l : List ℕ). SameOutside at n old.seen l) (sym (reads_only.seen k)) (SameOutside-refl at n old.seen)) (record { each = λ k c left. Rewritten-left at n old c (reads_only.crash.each k c left) })
+      (Elapses-more old new _ _ reads_only.time (λ k. Rewritten-left at n old))
 
 -- a call over a range that says what each of its moments leaves
 pub by_moment : (at n : ℕ) (old new : DeviceView) → IsDevice new → SameSeenOutside at n old new → AtEachMoment old new (Rewritten at n old) → Elapses old new (Rewritten at n old) → WritesWithin at n old new
@@ -118,16 +118,16 @@ pub no_time : (d : DeviceView) (P : List ℕ → Type 0) → Elapses d d P
 no_time d P = record { later = λ k. omega arith; nothing_else = λ k t c since left. inl left; keeps = λ k t c since left. left; before_or_since = λ k t c since left. inl left }
 
 -- no call at all
-pub LooksOnly-refl : (d : DeviceView) → LooksOnly d d
-LooksOnly-refl d = record { seen = λ k. refl; crash = record { each = λ k c left. left }; time = no_time d d.may_leave }
+pub OnlyReads-refl : (d : DeviceView) → OnlyReads d d
+OnlyReads-refl d = record { seen = λ k. refl; crash = record { each = λ k c left. left }; time = no_time d d.may_leave }
 
 -- a call that changes nothing
-pub looks : (old new : DeviceView) → ReadsAs new old.seen → LeavesOnly new old.may_leave → Elapses old new new.may_leave → LooksOnly old new
-looks old new seen crash time = record { seen = seen; crash = crash; time = Elapses-more old new new.may_leave old.may_leave time crash.each }
+pub reads_only : (old new : DeviceView) → ReadsAs new old.seen → LeavesOnly new old.may_leave → Elapses old new new.may_leave → OnlyReads old new
+reads_only old new seen crash time = record { seen = seen; crash = crash; time = Elapses-more old new new.may_leave old.may_leave time crash.each }
 
 -- two of them
-pub LooksOnly-trans : (old mid new : DeviceView) → (new.keeps_model → mid.keeps_model) → LooksOnly old mid → LooksOnly mid new → LooksOnly old new
-LooksOnly-trans old mid new model first second = record {
+pub OnlyReads-trans : (old mid new : DeviceView) → (new.keeps_model → mid.keeps_model) → OnlyReads old mid → OnlyReads mid new → OnlyReads old new
+OnlyReads-trans old mid new model first second = record {
   seen = λ k. second.seen k ∙ first.seen (model k);
   crash = record { each = λ k c left. first.crash.each (model k) c (second.crash.each k c left) };
   time = Elapses-trans old mid new old.may_leave model first.time (Elapses-more mid new mid.may_leave old.may_leave second.time (λ k. first.crash.each (model k)));
@@ -135,7 +135,7 @@ LooksOnly-trans old mid new model first second = record {
 
 -- no call at all
 pub WritesWithin-refl : (at n : ℕ) (d : DeviceView) → IsDevice d → WritesWithin at n d d
-WritesWithin-refl at n d device = by_look at n d d device (λ k. k) (LooksOnly-refl d)
+WritesWithin-refl at n d device = by_look at n d d device (λ k. k) (OnlyReads-refl d)
 
 -- over a wider range
 pub WritesWithin-wider : (at n wide_at wide_n : ℕ) → wide_at ≤ at → at + n ≤ wide_at + wide_n → (old new : DeviceView) → WritesWithin at n old new → WritesWithin wide_at wide_n old new

@@ -19,7 +19,7 @@ pub record Uses {T : Type 0} (old new : DeviceView) (result : Result T Fault) : 
   pub failures : MatchResult result (λ _. new.failures ≡ old.failures) (λ f. new.failures ≡ failures_after f old.failures)
 
 -- A read gives what it gave before, and a crash leaves no more than before, at any moment.
-pub record LooksOnly (old new : DeviceView) : Type 0 where
+pub record OnlyReads (old new : DeviceView) : Type 0 where
   pub seen : ReadsAs new old.seen
   pub crash : LeavesOnly new old.may_leave
   pub time : Elapses old new old.may_leave

@@ -1,7 +1,7 @@
 //! The calls on a whole cell, each failure as a fault.
 ghost use Rattle.std.specs.Prelude.{◌≡◌, ◌⊎◌, ◌≤◌, ◌<◌, ◌+◌, ◌∷◌, Some, false, length, OnOk, IfOk, IfErr, IfSome, IsErrOf, MatchResult};
 ghost use Rattle.tmem_disk.specs.Disk.{IsCall, SameSeenOutside, ReadsAs, overwritten, IsSynced, IsWriteOrSync};
-ghost use Rattle.tmem_gate.specs.Calls.{Uses, LooksOnly, WritesWithin};
+ghost use Rattle.tmem_gate.specs.Calls.{Uses, OnlyReads, WritesWithin};
 ghost use Rattle.tmem_gate.specs.Cells.{LeftClosed, LeftOpen};
 ghost use Rattle.tmem_gate.specs.Changes.{Puts, call_outcome};
 ghost use Rattle.tmem_gate.specs.Gate.{IsClosed, StandsClosed, HasBody};
@@ -49,8 +49,8 @@ pub fn close_if_open<D: Disk>(disk: &mut D, at: u64) -> Result<bool, DeviceFault
     ensures call { IsCall (D.view disk.old) (D.view disk.new) result (λ f. (f ≡ DeviceFault.Read) ⊎ (f ≡ DeviceFault.Write)) }
     ensures within { WritesWithin at 1 (D.view disk.old) (D.view disk.new) }
     ensures closed { (D.view disk.new).keeps_model → OnOk result (IsClosed at (D.view disk.new).seen) }
-    ensures looks { IfOk result (λ yes. yes ≡ false → LooksOnly (D.view disk.old) (D.view disk.new)) }
-    ensures idle { IsClosed at (D.view disk.old).seen → LooksOnly (D.view disk.old) (D.view disk.new) }
+    ensures reads_only { IfOk result (λ yes. yes ≡ false → OnlyReads (D.view disk.old) (D.view disk.new)) }
+    ensures idle { IsClosed at (D.view disk.old).seen → OnlyReads (D.view disk.old) (D.view disk.new) }
     ensures idle_answer { (D.view disk.new).keeps_model → IsClosed at (D.view disk.old).seen →
         MatchResult result (λ yes. yes ≡ false) (λ f. f ≡ DeviceFault.Read) }
 {

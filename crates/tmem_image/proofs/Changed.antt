@@ -9,7 +9,7 @@ use Rattle.tmem_gate.specs.Calls.{WritesWithin}
 use Rattle.tmem_record.specs.Layout.{pages_of, image_at}
 use Rattle.tmem_record.specs.Spelling.{number_bytes, value_bytes}
 use Rattle.tmem_record.specs.StandsAt.{StandsAt}
-use Rattle.tmem_state.specs.Versions.{mark_of}
+use Rattle.tmem_state.specs.Versions.{version_byte}
 use Rattle.tmem_state.specs.declared.version.Version.{Version}
 use Rattle.tmem_effect.specs.State.{State, apply, fold, written}
 use Rattle.tmem_effect.specs.declared.effect.Effect.{Effect}
@@ -64,12 +64,12 @@ module _ (at n offset vars pages : ℕ) (values : List ℤ) (b c : List ℕ) (sa
   }
 
 -- where a page is written that is in the set
-pub HoldsOthers-marked : (at vars pages page n : ℕ) (values : List ℤ) (b c : List ℕ) → has_page pages page ≡ true → n ≡ 512 → SameOutside (at + 512 * page) n b c → HoldsOthers at vars pages values b → HoldsOthers at vars pages values c
-HoldsOthers-marked at vars pages page n values b c marked long same holds = record {
+pub HoldsOthers-changed : (at vars pages page n : ℕ) (values : List ℤ) (b c : List ℕ) → has_page pages page ≡ true → n ≡ 512 → SameOutside (at + 512 * page) n b c → HoldsOthers at vars pages values b → HoldsOthers at vars pages values c
+HoldsOthers-changed at vars pages page n values b c changed long same holds = record {
   each = λ other below kept. ⊎_elim
       (λ before. stands_before (at + 512 * page) n (at + 512 * other) (page_bytes values other) b c same (omega (arith, before, length-page_bytes values other)) (holds.each other below kept))
       (λ not_before.
-      let apart : other ≡ page → ⊥ = λ is. false≢true (sym kept ∙ ap (has_page pages) is ∙ marked) in
+      let apart : other ≡ page → ⊥ = λ is. false≢true (sym kept ∙ ap (has_page pages) is ∙ changed) in
       stands_after (at + 512 * page) n (at + 512 * other) (page_bytes values other) b c same (omega (arith, not_before, apart, long)) (holds.each other below kept))
       (cases_lt other page);
 }
@@ -154,11 +154,11 @@ pages_behind v at vars generation s c long stands =
     let names : List ℕ = names_body s.names in
     let count : List ℕ = number_bytes 8 s.count in
     let first : List ℕ = number_bytes 8 generation in
-    let mark : List ℕ = mark_of v ∷ [] in
-    let one = second_part at first (count ++ (names ++ (mark ++ pages))) c stands in
-    let two = second_part (at + length first) count (names ++ (mark ++ pages)) c one in
-    let three = second_part (at + length first + length count) names (mark ++ pages) c two in
-    let four = second_part (at + length first + length count + length names) mark pages c three in
+    let byte : List ℕ = version_byte v ∷ [] in
+    let one = second_part at first (count ++ (names ++ (byte ++ pages))) c stands in
+    let two = second_part (at + length first) count (names ++ (byte ++ pages)) c one in
+    let three = second_part (at + length first + length count) names (byte ++ pages) c two in
+    let four = second_part (at + length first + length count + length names) byte pages c three in
     moved (at + length first + length count + length names + 1) (at + 2047) pages c (omega (arith, length-number_bytes 8 generation, length-number_bytes 8 s.count, long)) four
 
 -- an image holds each page of its values

@@ -1,4 +1,4 @@
--- The names of an image, and zeros up to the mark of the version.
+-- The names of an image, and zeros up to the version byte.
 use Rattle.std.proofs.Common.{◌≡◌, ◌-◌, ℕ, List, ◌++◌, length, replicate, sym, ◌∙◌, ap, arith, length-append}
 use Rattle.std.proofs.lemmas.List.{length-replicate}
 use Rattle.tmem_effect.specs.Names.{AreRegistered}

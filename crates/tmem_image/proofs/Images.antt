@@ -6,7 +6,7 @@ use Rattle.tmem_record.specs.Spelling.{number_bytes}
 use Rattle.tmem_record.specs.Stale.{IsStale}
 use Rattle.tmem_record.specs.StandsAt.{StandsAt}
 use Rattle.tmem_effect.specs.State.{State}
-use Rattle.tmem_state.specs.Versions.{mark_of}
+use Rattle.tmem_state.specs.Versions.{version_byte}
 use Rattle.tmem_state.specs.declared.version.Version.{Version}
 use Rattle.tmem_record.proofs.Laws.{between_is, first_part}
 use Rattle.tmem_image.specs.Spelling.{names_body, pages_body, image_body}
@@ -30,7 +30,7 @@ front_of_body at a b c cell = record { gate = cell.gate; body = body_from at a c
 -- the generation stands in front of an image
 pub front_of_image : (v : Version) (vars generation at : ℕ) (s : State) (c : List ℕ) → IsOpenOver at (image_body v vars generation s) c → IsOpenOver at (number_bytes 8 generation) c
 unfolding image_body
-front_of_image v vars generation at s c cell = front_of_body at (number_bytes 8 generation) (number_bytes 8 s.count ++ (names_body s.names ++ (mark_of v ∷ pages_body vars s.values))) c cell
+front_of_image v vars generation at s c cell = front_of_body at (number_bytes 8 generation) (number_bytes 8 s.count ++ (names_body s.names ++ (version_byte v ∷ pages_body vars s.values))) c cell
 
 -- a copy that holds an image is stale only for a generation above the image's
 pub lesser_of : (v : Version) (vars copy generation later : ℕ) (s : State) (c : List ℕ) → HoldsImage v vars copy generation s c → IsStale later (image_at vars copy) c → generation < later

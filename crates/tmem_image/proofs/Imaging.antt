@@ -7,7 +7,7 @@ use Rattle.tmem_effect.specs.Names.{AreRegistered}
 use Rattle.tmem_record.specs.Spelling.{number_bytes, value_bytes, names_bytes}
 use Rattle.tmem_effect.specs.State.{State}
 use Rattle.tmem_record.specs.StandsAt.{StandsAt, zero_bytes, values_bytes}
-use Rattle.tmem_state.specs.Versions.{mark_of}
+use Rattle.tmem_state.specs.Versions.{version_byte}
 use Rattle.tmem_state.specs.declared.version.Version.{Version}
 use Rattle.tmem_state.specs.declared.version.Version.TheVariants.{One, Two}
 use Rattle.tmem_record.specs.Layout.{pages_of, image_size}
@@ -19,11 +19,11 @@ use Rattle.tmem_image.proofs.Lengths.{length-names_body, length-image_body}
 abbrev rest_of : ℕ → List ℕ
 rest_of vars = zero_bytes (512 * pages_of vars - 8 * vars)
 
-abbrev behind_mark : ℕ → State → List ℕ
-behind_mark vars s = values_bytes s.values ++ rest_of vars
+abbrev behind_version : ℕ → State → List ℕ
+behind_version vars s = values_bytes s.values ++ rest_of vars
 
 abbrev behind_names : Version → ℕ → State → List ℕ
-behind_names v vars s = (mark_of v ∷ []) ++ behind_mark vars s
+behind_names v vars s = (version_byte v ∷ []) ++ behind_version vars s
 
 abbrev behind_count : Version → ℕ → State → List ℕ
 behind_count v vars s = names_body s.names ++ behind_names v vars s
@@ -40,7 +40,7 @@ pub record IsSplit (v : Version) (vars generation : ℕ) (s : State) (bytes : Li
   pub first : StandsAt 0 (number_bytes 8 generation) bytes
   pub count : StandsAt 8 (number_bytes 8 s.count) bytes
   pub names : StandsAt 16 (names_body s.names) bytes
-  pub mark : StandsAt 2046 (mark_of v ∷ []) bytes
+  pub byte : StandsAt 2046 (version_byte v ∷ []) bytes
   pub values : StandsAt 2047 (values_bytes s.values) bytes
   pub padded : IsPadded vars bytes
 
@@ -63,33 +63,33 @@ module _ (v : Version) (vars generation : ℕ) (s : State) (registered : AreRegi
       let at_8 = cut 0 8 (number_bytes 8 generation) (behind_generation v vars s) bytes after_generation whole in
       let at_16 = cut 8 16 (number_bytes 8 s.count) (behind_count v vars s) bytes after_count at_8.1 in
       let at_2046 = cut 16 2046 (names_body s.names) (behind_names v vars s) bytes after_names at_16.1 in
-      let at_2047 = cut 2046 2047 (mark_of v ∷ []) (behind_mark vars s) bytes refl at_2046.1 in
+      let at_2047 = cut 2046 2047 (version_byte v ∷ []) (behind_version vars s) bytes refl at_2046.1 in
       let last = cut 2047 (2047 + 8 * vars) (values_bytes s.values) (rest_of vars) bytes after_values at_2047.1 in
-      record { first = at_8.0; count = at_16.0; names = at_2046.0; mark = at_2047.0; values = last.0; padded = last.1 }
+      record { first = at_8.0; count = at_16.0; names = at_2046.0; byte = at_2047.0; values = last.0; padded = last.1 }
 
   pub join_image : length bytes + 1 ≡ image_size vars → IsSplit v vars generation s bytes → bytes ≡ image_body v vars generation s
   join_image size parts =
       let from_values = glue 2047 (2047 + 8 * vars) (values_bytes s.values) (rest_of vars) bytes after_values parts.values parts.padded in
-      let from_mark = glue 2046 2047 (mark_of v ∷ []) (behind_mark vars s) bytes refl parts.mark from_values in
-      let from_names = glue 16 2046 (names_body s.names) (behind_names v vars s) bytes after_names parts.names from_mark in
+      let from_version = glue 2046 2047 (version_byte v ∷ []) (behind_version vars s) bytes refl parts.byte from_values in
+      let from_names = glue 16 2046 (names_body s.names) (behind_names v vars s) bytes after_names parts.names from_version in
       let from_count = glue 8 16 (number_bytes 8 s.count) (behind_count v vars s) bytes after_count parts.count from_names in
       let whole = glue 0 8 (number_bytes 8 generation) (behind_generation v vars s) bytes after_generation parts.first from_count in
       let all : length bytes ≡ length (number_bytes 8 generation ++ behind_generation v vars s) = omega (arith, size, length-image_body v vars generation s registered long, ap length (image_parts v vars generation s)) in
       whole_from (number_bytes 8 generation ++ behind_generation v vars s) bytes all whole ∙ sym (image_parts v vars generation s)
 
--- the mark, as one of the bytes
-pub mark_stands : (mark : ℕ) (bytes : List ℕ) → 2046 < length bytes → get_or bytes 2046 0 ≡ mark → StandsAt 2046 (mark ∷ []) bytes
-mark_stands mark bytes room is = record { is = ap (take 1) (drop_more bytes 2046 0 room) ∙ ap (λ (m : ℕ). m ∷ []) is }
+-- the version byte, as one of the bytes
+pub version_stands : (byte : ℕ) (bytes : List ℕ) → 2046 < length bytes → get_or bytes 2046 0 ≡ byte → StandsAt 2046 (byte ∷ []) bytes
+version_stands byte bytes room is = record { is = ap (take 1) (drop_more bytes 2046 0 room) ∙ ap (λ (m : ℕ). m ∷ []) is }
 
-pub mark_there : (mark : ℕ) (bytes : List ℕ) → 2046 < length bytes → StandsAt 2046 (mark ∷ []) bytes → get_or bytes 2046 0 ≡ mark
-mark_there mark bytes room stands = ap (λ (l : List ℕ). get_or l 0 0) (sym (ap (take 1) (drop_more bytes 2046 0 room)) ∙ stands.is)
+pub version_there : (byte : ℕ) (bytes : List ℕ) → 2046 < length bytes → StandsAt 2046 (byte ∷ []) bytes → get_or bytes 2046 0 ≡ byte
+version_there byte bytes room stands = ap (λ (l : List ℕ). get_or l 0 0) (sym (ap (take 1) (drop_more bytes 2046 0 room)) ∙ stands.is)
 
--- each version has a mark of its own
-pub one_mark : (v w : Version) → mark_of v ≡ mark_of w → v ≡ w
-one_mark One One same = refl
-one_mark One Two same = cc
-one_mark Two One same = cc
-one_mark Two Two same = refl
+-- each version has a byte of its own
+pub one_version : (v w : Version) → version_byte v ≡ version_byte w → v ≡ w
+one_version One One same = refl
+one_version One Two same = cc
+one_version Two One same = cc
+one_version Two Two same = refl
 
 -- the part of the header that has the names
 pub names_stand : (names : List (List ℕ)) (bytes part : List ℕ) → AreRegistered names → part ≡ take 2030 (drop 16 bytes) → part ≡ names_body names → StandsAt 16 (names_body names) bytes
@@ -117,15 +117,15 @@ same_pages vars xs ys long fits fits' same =
 pub one_state : (v w : Version) (vars g h : ℕ) (s t : State) → g < 2 ^ 64 → h < 2 ^ 64 → IsImage vars s → IsImage vars t → image_body v vars g s ≡ image_body w vars h t → (v ≡ w) × (g ≡ h) × (s ≡ t)
 unfolding image_body
 one_state v w vars g h s t fits_g fits_h fits fits' same =
-    let generation = delimits_number 8 g h (number_bytes 8 s.count ++ (names_body s.names ++ marked v s)) (number_bytes 8 t.count ++ (names_body t.names ++ marked w t)) (omega (arith, fits_g)) (omega (arith, fits_h)) same in
-    let count = delimits_number 8 s.count t.count (names_body s.names ++ marked v s) (names_body t.names ++ marked w t) fits.count fits'.count generation.1 in
-    let names = same_names s.names t.names (marked v s) (marked w t) fits.names fits'.names count.1 in
-    let mark = one_mark v w (ap (λ (l : List ℕ). get_or l 0 0) names.1) in
+    let generation = delimits_number 8 g h (number_bytes 8 s.count ++ (names_body s.names ++ from_byte v s)) (number_bytes 8 t.count ++ (names_body t.names ++ from_byte w t)) (omega (arith, fits_g)) (omega (arith, fits_h)) same in
+    let count = delimits_number 8 s.count t.count (names_body s.names ++ from_byte v s) (names_body t.names ++ from_byte w t) fits.count fits'.count generation.1 in
+    let names = same_names s.names t.names (from_byte v s) (from_byte w t) fits.names fits'.names count.1 in
+    let byte = one_version v w (ap (λ (l : List ℕ). get_or l 0 0) names.1) in
     let values = same_pages vars s.values t.values (fits.values ∙ sym fits'.values) fits.numbers fits'.numbers (ap (drop 1) names.1) in
-    (mark, generation.0, ap (λ (k : ℕ). made k s.names s.values) count.0 ∙ ap (λ (l : List (List ℕ)). made t.count l s.values) names.0 ∙ ap (made t.count t.names) values)
+    (byte, generation.0, ap (λ (k : ℕ). made k s.names s.values) count.0 ∙ ap (λ (l : List (List ℕ)). made t.count l s.values) names.0 ∙ ap (made t.count t.names) values)
   where
-    marked : Version → State → List ℕ
-    marked x u = mark_of x ∷ pages_body vars u.values
+    from_byte : Version → State → List ℕ
+    from_byte x u = version_byte x ∷ pages_body vars u.values
 
     made : ℕ → List (List ℕ) → List ℤ → State
     made m ns xs = record { count = m; names = ns; values = xs }

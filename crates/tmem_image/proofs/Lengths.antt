@@ -7,7 +7,7 @@ use Rattle.tmem_fault.specs.Name.{IsName}
 use Rattle.tmem_record.specs.Layout.{pages_of}
 use Rattle.tmem_effect.specs.Names.{AreRegistered}
 use Rattle.tmem_effect.specs.State.{State}
-use Rattle.tmem_state.specs.Versions.{mark_of}
+use Rattle.tmem_state.specs.Versions.{version_byte}
 use Rattle.tmem_state.specs.declared.version.Version.{Version}
 use Rattle.tmem_record.specs.Spelling.{number_bytes, value_bytes, name_bytes, names_bytes}
 use Rattle.tmem_record.proofs.Laws.{length-number_bytes, length-value_bytes, length-flat}
@@ -33,7 +33,7 @@ pub length-names_bytes-le : (names : List (List ℕ)) → All IsName names → l
 unfolding names_bytes
 length-names_bytes-le names each = omega (arith, length-each_name-le names each)
 
--- the names end before the mark
+-- the names end before the version byte
 pub length-names_body : (names : List (List ℕ)) → AreRegistered names → length (names_body names) ≡ 2030
 unfolding names_body
 length-names_body names are =
@@ -51,15 +51,15 @@ unfolding image_body
 length-image_body v vars generation s registered all =
     joined (number_bytes 8 generation) behind_8 8 (8 + (2030 + (1 + 512 * pages_of vars))) (length-number_bytes 8 generation)
     (joined (number_bytes 8 s.count) behind_16 8 (2030 + (1 + 512 * pages_of vars)) (length-number_bytes 8 s.count)
-    (joined (names_body s.names) marked 2030 (1 + 512 * pages_of vars) (length-names_body s.names registered)
-    (joined (mark_of v ∷ []) (pages_body vars s.values) 1 (512 * pages_of vars) refl (length-pages_body vars s.values all))))
+    (joined (names_body s.names) behind_names 2030 (1 + 512 * pages_of vars) (length-names_body s.names registered)
+    (joined (version_byte v ∷ []) (pages_body vars s.values) 1 (512 * pages_of vars) refl (length-pages_body vars s.values all))))
     ∙ omega arith
   where
-    marked : List ℕ
-    marked = mark_of v ∷ pages_body vars s.values
+    behind_names : List ℕ
+    behind_names = version_byte v ∷ pages_body vars s.values
 
     behind_16 : List ℕ
-    behind_16 = names_body s.names ++ marked
+    behind_16 = names_body s.names ++ behind_names
 
     behind_8 : List ℕ
     behind_8 = number_bytes 8 s.count ++ behind_16
@@ -67,6 +67,6 @@ length-image_body v vars generation s registered all =
 pub length-header_body : (v : Version) (generation : ℕ) (s : State) → AreRegistered s.names → length (header_body v generation s) ≡ 2047
 unfolding header_body
 length-header_body v generation s registered =
-    joined (number_bytes 8 generation) (number_bytes 8 s.count ++ (names_body s.names ++ mark_of v ∷ [])) 8 2039 (length-number_bytes 8 generation)
-    (joined (number_bytes 8 s.count) (names_body s.names ++ mark_of v ∷ []) 8 2031 (length-number_bytes 8 s.count)
-    (joined (names_body s.names) (mark_of v ∷ []) 2030 1 (length-names_body s.names registered) refl))
+    joined (number_bytes 8 generation) (number_bytes 8 s.count ++ (names_body s.names ++ version_byte v ∷ [])) 8 2039 (length-number_bytes 8 generation)
+    (joined (number_bytes 8 s.count) (names_body s.names ++ version_byte v ∷ []) 8 2031 (length-number_bytes 8 s.count)
+    (joined (names_body s.names) (version_byte v ∷ []) 2030 1 (length-names_body s.names registered) refl))

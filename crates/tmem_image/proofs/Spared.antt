@@ -6,7 +6,7 @@ use Rattle.tmem_fault.specs.declared.fault.Fault.{Fault}
 use Rattle.tmem_fault.specs.declared.fault.Fault.TheVariants.{Device, Unknown}
 use Rattle.tmem_disk.proofs.Laws.{SameOutside-refl, SameOutside-trans, SameOutside-wider, slice_range-after, LeavesOnly-moment, AtEachMoment-more, AtEachMoment-elapsed, AtEachMoment-trans, Elapses-more, either_time}
 use Rattle.tmem_gate.specs.Gate.{IsOpenAt, IsClosed, StandsClosed, HasBody}
-use Rattle.tmem_gate.specs.Calls.{Uses, failures_after, LooksOnly, WritesWithin, MadeBy}
+use Rattle.tmem_gate.specs.Calls.{Uses, failures_after, OnlyReads, WritesWithin, MadeBy}
 use Rattle.tmem_gate.specs.Cells.{LeftClosed, LeftOpen}
 use Rattle.tmem_gate.specs.Changes.{Outcome, WasMade, NotMade, InDoubt, NotBegun, call_outcome, Becomes, Meanwhile, Puts}
 use Rattle.tmem_gate.proofs.Laws.{gate_cases, whole_after, closed_before, by_look, WritesWithin-wider, WritesWithin-trans}
@@ -17,7 +17,7 @@ use Rattle.tmem_record.specs.Spelling.{number_bytes}
 use Rattle.tmem_record.specs.StandsAt.{StandsAt}
 use Rattle.tmem_record.proofs.Laws.{both_parts, between_is}
 use Rattle.tmem_effect.specs.Names.{AreRegistered}
-use Rattle.tmem_state.specs.Versions.{mark_of}
+use Rattle.tmem_state.specs.Versions.{version_byte}
 use Rattle.tmem_state.specs.declared.version.Version.{Version}
 use Rattle.tmem_state.specs.declared.version.Version.TheVariants.{Two}
 use Rattle.tmem_image.proofs.Lengths.{length-header_body, length-pages_body}
@@ -56,7 +56,7 @@ module _ (vars slots copy at capacity : ℕ) (offset : at ≡ image_at vars copy
   header_within header now long same = omega (arith, whole)
 
 -- a gate is closed that reads open
-module _ (old shut : DeviceView) (at : ℕ) (device : IsDevice old) (settled : IsSettled at old) (model : shut.keeps_model → old.keeps_model) (within : WritesWithin at 1 old shut) (idle : IsClosed at old.seen → LooksOnly old shut) where
+module _ (old shut : DeviceView) (at : ℕ) (device : IsDevice old) (settled : IsSettled at old) (model : shut.keeps_model → old.keeps_model) (within : WritesWithin at 1 old shut) (idle : IsClosed at old.seen → OnlyReads old shut) where
   shut_made : old.keeps_model → IsOpenAt at old.seen → (c : List ℕ) → Rewritten at 1 old c → MadeBy (Left at 1) old c
   shut_made k opened c from = (from.0, from.1, record { elsewhere = from.2; stale = λ generation. stale_kept at generation from.0 c (settled.each k from.0 from.1 ∙ opened) from.2 })
 
@@ -77,10 +77,10 @@ module _ (at n : ℕ) (old mid : DeviceView) (device : IsDevice mid) (spares : S
   spared_now = LeavesOnly-moment old mid _ device spares.within.time.later spares.during
 
   -- and a call follows that writes nothing
-  pub Spares-look : (new : DeviceView) → (new.keeps_model → mid.keeps_model) → LooksOnly mid new → Spares at n old new
-  Spares-look new model looks = record {
-    within = WritesWithin-trans at n old mid new model spares.within (by_look at n mid new device model looks);
-    during = AtEachMoment-trans old mid new _ _ model spares.within.time.later spares.during looks.time (λ k. spared_now.each (model k));
+  pub Spares-read_only : (new : DeviceView) → (new.keeps_model → mid.keeps_model) → OnlyReads mid new → Spares at n old new
+  Spares-read_only new model reads_only = record {
+    within = WritesWithin-trans at n old mid new model spares.within (by_look at n mid new device model reads_only);
+    during = AtEachMoment-trans old mid new _ _ model spares.within.time.later spares.during reads_only.time (λ k. spared_now.each (model k));
   }
 
   -- or one that writes behind the gate, which stands closed
@@ -147,7 +147,7 @@ pub record IsPaged (p : ImagePlaced) (header : List ℕ) (d : DeviceView) : Type
 
 parts_of_image : (v : Version) (vars generation : ℕ) (s : State) → header_body v generation s ++ pages_body vars s.values ≡ image_body v vars generation s
 unfolding header_body image_body
-parts_of_image v vars generation s = grouped (number_bytes 8 generation) (number_bytes 8 s.count) (names_body s.names) (mark_of v ∷ []) (pages_body vars s.values)
+parts_of_image v vars generation s = grouped (number_bytes 8 generation) (number_bytes 8 s.count) (names_body s.names) (version_byte v ∷ []) (pages_body vars s.values)
   where
     grouped : (a b n m p : List ℕ) → (a ++ (b ++ (n ++ m))) ++ p ≡ a ++ (b ++ (n ++ (m ++ p)))
     grouped a b n m p = simp append_assoc

@@ -5,10 +5,10 @@ use Rattle.tmem_effect.specs.Names.{AreRegistered}
 use Rattle.tmem_record.specs.Spelling.{number_bytes, value_bytes, names_bytes}
 use Rattle.tmem_effect.specs.State.{State}
 use Rattle.tmem_record.specs.Layout.{pages_of}
-use Rattle.tmem_state.specs.Versions.{mark_of}
+use Rattle.tmem_state.specs.Versions.{version_byte}
 use Rattle.tmem_state.specs.declared.version.Version.{Version}
 
--- how many names, each of them, and 0 up to the mark of the version
+-- how many names, each of them, and 0 up to the version byte
 unfoldable pub names_body : List (List ℕ) → List ℕ
 names_body names = names_bytes names ++ replicate (2030 - length (names_bytes names)) 0
 
@@ -16,13 +16,13 @@ names_body names = names_bytes names ++ replicate (2030 - length (names_bytes na
 unfoldable pub pages_body : ℕ → List ℤ → List ℕ
 pages_body vars values = flat_map value_bytes values ++ replicate (512 * pages_of vars - 8 * vars) 0
 
--- the generation, the count, the names, the mark of the version, and the pages
+-- the generation, the count, the names, the version byte, and the pages
 unfoldable pub image_body : Version → ℕ → ℕ → State → List ℕ
-image_body v vars generation s = number_bytes 8 generation ++ (number_bytes 8 s.count ++ (names_body s.names ++ (mark_of v ∷ pages_body vars s.values)))
+image_body v vars generation s = number_bytes 8 generation ++ (number_bytes 8 s.count ++ (names_body s.names ++ (version_byte v ∷ pages_body vars s.values)))
 
 -- what stands in front of the pages
 unfoldable pub header_body : Version → ℕ → State → List ℕ
-header_body v generation s = number_bytes 8 generation ++ (number_bytes 8 s.count ++ (names_body s.names ++ mark_of v ∷ []))
+header_body v generation s = number_bytes 8 generation ++ (number_bytes 8 s.count ++ (names_body s.names ++ version_byte v ∷ []))
 
 -- the values of one page: 64, or as many as are left
 abbrev pub page_values : List ℤ → ℕ → List ℤ

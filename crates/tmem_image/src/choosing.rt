@@ -1,6 +1,6 @@
 // The copy that a device chooses.
 ghost use Rattle.std.specs.Prelude.{◌≡◌, ◌⊎◌, ◌≤◌, ◌+◌, ℕ, List, Some, IfOk, IfErr, IfSome, IfNone, OnErr, IsErrOf};
-ghost use Rattle.tmem_gate.specs.Calls.{Uses, LooksOnly, IsWhyNone};
+ghost use Rattle.tmem_gate.specs.Calls.{Uses, OnlyReads, IsWhyNone};
 ghost use Rattle.tmem_effect.specs.State.{State as StateOf};
 ghost use Rattle.tmem_state.specs.declared.version.Version.{Version as VersionOf};
 ghost use Rattle.tmem_record.specs.Layout.{image_at, end_at};
@@ -25,7 +25,7 @@ const FRONT_BYTES: usize = 9;
 pub fn choose<D: Disk>(disk: &mut D, layout: Layout) -> Result<u8, Fault>
     requires { end_at layout.vars layout.slots ≤ (D.view disk.old).capacity }
     ensures uses { Uses (D.view disk.old) (D.view disk.new) result }
-    ensures looks { LooksOnly (D.view disk.old) (D.view disk.new) }
+    ensures reads_only { OnlyReads (D.view disk.old) (D.view disk.new) }
     ensures one { IfOk result (λ copy. copy ≤ 1) }
     ensures found { (D.view disk.new).keeps_model → IfOk result (λ copy. ChoosesCopy layout.vars copy (D.view disk.old).seen) }
     ensures errors { IfErr result (λ f. (f ≡ Fault.Device) ⊎ (f ≡ Fault.Damaged)) }
@@ -49,7 +49,7 @@ pub fn load<D: Disk>(
     requires one { copy ≤ 1 }
     requires room { IsImageRoom layout.vars room }
     ensures uses { Uses (D.view disk.old) (D.view disk.new) result }
-    ensures looks { LooksOnly (D.view disk.old) (D.view disk.new) }
+    ensures reads_only { OnlyReads (D.view disk.old) (D.view disk.new) }
     ensures number { IfOk result (λ image. IsGeneration image.generation) }
     ensures fits { IfOk result (λ image. IsImage layout.vars image.state) }
     ensures found { (D.view disk.new).keeps_model → IfOk result (λ image. HoldsImage image.version layout.vars copy image.generation image.state (D.view disk.old).seen) }
@@ -73,7 +73,7 @@ pub fn load<D: Disk>(
 fn head_at<D: Disk>(disk: &mut D, at: u64) -> Result<Option<u64>, Fault>
     requires { at + 9 ≤ (D.view disk.old).capacity }
     ensures uses { Uses (D.view disk.old) (D.view disk.new) result }
-    ensures looks { LooksOnly (D.view disk.old) (D.view disk.new) }
+    ensures reads_only { OnlyReads (D.view disk.old) (D.view disk.new) }
     ensures found { (D.view disk.new).keeps_model → IfOk result (λ head. HasHead at head (D.view disk.old).seen) }
     ensures err { IfErr result (λ f. f ≡ Fault.Device) }
     ensures last { OnErr result ((D.view disk.new).last_fault ≡ Some DeviceFault.Read) }

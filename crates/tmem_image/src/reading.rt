@@ -17,8 +17,8 @@ use tmem_state::{NameSet, State, Version};
 /// How long an image's header is without its gate.
 pub const HEADER_BODY_BYTES: usize = HEADER_BYTES - 1;
 
-/// Where the mark of the version stands in an image's header without its gate: in the last byte.
-pub const MARK_AT: usize = HEADER_BODY_BYTES - 1;
+/// Where the version byte stands in an image's header without its gate: in the last byte.
+pub const VERSION_BYTE_AT: usize = HEADER_BODY_BYTES - 1;
 
 // How many of its bytes stand in front of the names.
 const NAMES_AT: usize = 16;
@@ -43,7 +43,7 @@ fn is_padded(bytes: &[u8], vars: u16) -> bool
     is_blank(bytes, end, bytes.len() - end)
 }
 
-// Reads the names of an image, from their number on to the mark of the version, into an empty set, and answers whether
+// Reads the names of an image, from their number on to the version byte, into an empty set, and answers whether
 // they stand there.
 fn read_names(bytes: &[u8], names: &mut NameSet) -> bool
     requires long { length bytes.now ≡ 2030 }
@@ -96,10 +96,10 @@ pub(crate) fn read_image(
     if generation == 0 {
         return None;
     }
-    if !read_names(&bytes[NAMES_AT..MARK_AT], &mut names) {
+    if !read_names(&bytes[NAMES_AT..VERSION_BYTE_AT], &mut names) {
         return None;
     }
-    let version = Version::of_mark(bytes[MARK_AT])?;
+    let version = Version::of_byte(bytes[VERSION_BYTE_AT])?;
     let count = number_at(bytes, 8);
     read_values(bytes, HEADER_BODY_BYTES, vars, &mut values);
     let state = State::of(count, names, values);

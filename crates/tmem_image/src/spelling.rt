@@ -5,7 +5,7 @@ ghost use Rattle.tmem_record.specs.Spelling.{value_bytes};
 ghost use Rattle.tmem_state.specs.declared.version.Version.TheVariants.{Two};
 ghost use Rattle.tmem_image.specs.Spelling.{header_body, page_bytes, page_values, AreValues};
 
-use crate::reading::{HEADER_BODY_BYTES, MARK_AT};
+use crate::reading::{HEADER_BODY_BYTES, VERSION_BYTE_AT};
 use tmem_record::bytes::put;
 use tmem_record::{PAGE_BYTES, PAGE_VALUES, write_names};
 use tmem_state::{State, Version};
@@ -17,7 +17,7 @@ pub(crate) fn header_of(generation: u64, state: &State) -> [u8; HEADER_BODY_BYTE
     ensures countable { state.now.count < 2 ^ 64 }
 {
     let mut bytes = [0; HEADER_BODY_BYTES];
-    put(&mut bytes, MARK_AT, &[Version::Two.mark()]);
+    put(&mut bytes, VERSION_BYTE_AT, &[Version::Two.byte()]);
     let mut at = put(&mut bytes, 0, &generation.to_le_bytes());
     at = put(&mut bytes, at, &state.count().to_le_bytes());
     write_names(&mut bytes, at, state.names());

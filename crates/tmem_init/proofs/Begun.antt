@@ -4,7 +4,7 @@ use Rattle.std.proofs.lemmas.List.{length-drop, take_all}
 use Rattle.std.specs.Prelude.{slice_index}
 use Rattle.tmem_disk.specs.Disk.{DeviceView, IsDevice, AtEachMoment, IsSynced}
 use Rattle.tmem_disk.proofs.Laws.{AtEachMoment-elapsed, either_time}
-use Rattle.tmem_gate.specs.Calls.{LooksOnly}
+use Rattle.tmem_gate.specs.Calls.{OnlyReads}
 use Rattle.tmem_gate.specs.Cells.{LeftClosed, LeftOpen}
 use Rattle.tmem_gate.specs.Changes.{Outcome, WasMade, NotMade, InDoubt, NotBegun, Meanwhile, Puts}
 use Rattle.tmem_gate.specs.Gate.{IsClosed, IsOpenOver, StandsClosed}
@@ -23,18 +23,18 @@ first_taken [] (suc n) some = refl
 first_taken (x ∷ xs) zero some = absurd (omega arith)
 first_taken (x ∷ xs) (suc n) some = refl
 
-module _ (content : List ℕ) (some : 1 ≤ length content) (old mid : DeviceView) (device : IsDevice old) (model : mid.keeps_model → old.keeps_model) (looks : LooksOnly old mid) where
+module _ (content : List ℕ) (some : 1 ≤ length content) (old mid : DeviceView) (device : IsDevice old) (model : mid.keeps_model → old.keeps_model) (reads_only : OnlyReads old mid) where
   -- a device that was looked at, which is synced and blank, stands closed
   pub stands_closed : IsSynced old → (mid.keeps_model → IsBlankFor content (take (length content) old.seen)) → StandsClosed 0 mid
   stands_closed synced blank = record {
     each = λ k c left.
         let gate = (blank k).gate in
-        subst (IsClosed 0) (sym (synced (model k) c (looks.crash.each k c left))) (closed_at_zero old.seen (sym (first_taken old.seen (length content) some) ∙ gate));
+        subst (IsClosed 0) (sym (synced (model k) c (reads_only.crash.each k c left))) (closed_at_zero old.seen (sym (first_taken old.seen (length content) some) ∙ gate));
   }
 
   -- while it is looked at, a crash leaves what it might have left before
   pub while_looking : AtEachMoment old mid (LeftByMaking content old)
-  while_looking = AtEachMoment-elapsed old mid old.may_leave (LeftByMaking content old) device model looks.time (record { each = λ k c left. inl left }) (λ k c left. inl left)
+  while_looking = AtEachMoment-elapsed old mid old.may_leave (LeftByMaking content old) device model reads_only.time (record { each = λ k c left. inl left }) (λ k c left. inl left)
 
   -- and while a cell is put there, it leaves that closed or whole
   module _ (bytes : List ℕ) (is : bytes ≡ drop 1 content) (new : DeviceView) (kept : new.keeps_model → mid.keeps_model) (closed : StandsClosed 0 mid) where
@@ -49,7 +49,7 @@ module _ (content : List ℕ) (some : 1 ≤ length content) (old mid : DeviceVie
       each = λ k c left. ⊎_elim
           (λ was. while_looking.each (kept k) c was)
           (λ now. inr (not_half k c o (puts.any_moment.each k c now)))
-          (either_time old mid new _ kept looks.time.later puts.elsewhere.time k c left);
+          (either_time old mid new _ kept reads_only.time.later puts.elsewhere.time k c left);
     }
 
 -- all that stands behind the first byte

@@ -5,7 +5,7 @@ use Rattle.tmem_fault.specs.declared.fault.Fault.TheVariants.{Device, Unknown}
 use Rattle.tmem_file.specs.FileView.{file_view}
 use Rattle.tmem_file.specs.Opening.{IsFreshlyOpened}
 use Rattle.tmem_file.specs.declared.disk.FileDisk.{FileDisk}
-use Rattle.tmem_gate.specs.Calls.{LooksOnly}
+use Rattle.tmem_gate.specs.Calls.{OnlyReads}
 use Rattle.tmem_gate.specs.Gate.{IsClosed, IsOpenOver}
 use Rattle.tmem_init.specs.declared.error.InitError.{InitError}
 use Rattle.tmem_init.specs.declared.error.InitError.TheVariants.{Refused}
@@ -48,5 +48,5 @@ pub record FindsOther (content : List ℕ) : Type 0 where
   pub found : FileDisk
   pub opened : IsFreshlyOpened (file_view found)
   pub handed : FileDisk
-  pub looks : LooksOnly (file_view found) (file_view handed)
+  pub reads_only : OnlyReads (file_view found) (file_view handed)
   pub other : (file_view handed).keeps_model → ¬ IsBlankFor content (take (length content) (file_view found).seen)

@@ -2,7 +2,7 @@
 ghost use Rattle.std.specs.Prelude.{◌≡◌, ◌≢◌, ◌∷◌, ◌≤◌, ◌↔◌, ℕ, List, length, drop, take, IsTrue, IfOk, IfErr, MatchResult, OnOk};
 ghost use Rattle.std.specs.IoError.{error_kind};
 ghost use Rattle.tmem_disk.specs.Disk.{AtEachMoment, IsSynced, ReadsAs, overwritten};
-ghost use Rattle.tmem_gate.specs.Calls.{LooksOnly};
+ghost use Rattle.tmem_gate.specs.Calls.{OnlyReads};
 ghost use Rattle.tmem_gate.specs.Gate.{IsOpenAt};
 ghost use Rattle.tmem_gate.specs.declared.gate.TheConstants.{GATE_OPEN};
 ghost use Rattle.tmem_file.specs.FileView.{file_view};
@@ -124,7 +124,7 @@ pub fn put_on<D: Disk>(alloc: Global, disk: &mut D, content: &[u8]) -> Result<()
 
     // Where it is refused for another reason than a failed call, nothing was written. And a crash at any moment leaves what one might
     // have left before, or block 0 closed, or the whole content.
-    ensures early { IfErr result (λ error. IsEarly error → LooksOnly (D.view disk.old) (D.view disk.new)) }
+    ensures early { IfErr result (λ error. IsEarly error → OnlyReads (D.view disk.old) (D.view disk.new)) }
     ensures any_moment { AtEachMoment (D.view disk.old) (D.view disk.new) (LeftByMaking content.now (D.view disk.old)) }
 {
     if disk.size() < content.len() as u64 {
@@ -143,7 +143,7 @@ fn is_blank_for<D: Disk>(alloc: Global, disk: &mut D, content: &[u8]) -> Result<
     requires room { length content.now ≤ (D.view disk.old).capacity }
     ensures capacity { (D.view disk.new).capacity ≡ (D.view disk.old).capacity }
     ensures model { (D.view disk.new).keeps_model → (D.view disk.old).keeps_model }
-    ensures looks { LooksOnly (D.view disk.old) (D.view disk.new) }
+    ensures reads_only { OnlyReads (D.view disk.old) (D.view disk.new) }
     ensures blank { IfOk result (λ yes. (D.view disk.new).keeps_model → IsTrue yes ↔ IsBlankFor content.now (take (length content.now) (D.view disk.old).seen)) }
 {
     let found = vec![in alloc; 0; content.len()]?;

@@ -10,7 +10,7 @@ use Rattle.tmem_gate.specs.Gate.{IsClosed, IsOpenOver}
 use Rattle.tmem_gate.proofs.Laws.{closed_before}
 use Rattle.tmem_effect.specs.State.{first_state}
 use Rattle.tmem_record.specs.Spelling.{number_bytes, value_bytes, names_bytes}
-use Rattle.tmem_state.specs.Versions.{mark_of}
+use Rattle.tmem_state.specs.Versions.{version_byte}
 use Rattle.tmem_state.specs.declared.version.Version.TheVariants.{Two}
 use Rattle.tmem_record.specs.Layout.{IsLayout, pages_of, image_at, slot_at, end_at}
 use Rattle.tmem_redolog.specs.Log.{HoldsLog}
@@ -55,12 +55,12 @@ first_image vars =
     let room : 8 * vars ≤ 512 * pages_of vars = omega arith in
     let whole : 8 * vars + (512 * pages_of vars - 8 * vars) ≡ 512 * pages_of vars = omega arith in
     let pages = ap (λ (l : List ℕ). l ++ replicate (512 * pages_of vars - 8 * vars) 0) (zero_values vars) ∙ replicate-append-replicate (8 * vars) (512 * pages_of vars - 8 * vars) 0 ∙ ap (λ (k : ℕ). replicate k 0) whole in
-    let behind : List ℕ = mark_of Two ∷ replicate (512 * pages_of vars) 0 in
-    let header : replicate 8 0 ++ (names_body [] ++ behind) ≡ (replicate 2038 0 ++ mark_of Two ∷ []) ++ replicate (512 * pages_of vars) 0 =
+    let behind : List ℕ = version_byte Two ∷ replicate (512 * pages_of vars) 0 in
+    let header : replicate 8 0 ++ (names_body [] ++ behind) ≡ (replicate 2038 0 ++ version_byte Two ∷ []) ++ replicate (512 * pages_of vars) 0 =
     ap (λ (l : List ℕ). replicate 8 0 ++ (l ++ behind)) zero_names ∙ sym (append_assoc (replicate 8 0) (replicate 2030 0) behind) ∙ ap (λ (l : List ℕ). l ++ behind) (replicate-append-replicate 8 2030 0)
-    ∙ sym (append_assoc (replicate 2038 0) (mark_of Two ∷ []) (replicate (512 * pages_of vars) 0)) in
-    ap (λ (l : List ℕ). little_bytes 8 1 ++ l) (ap (λ (l : List ℕ). replicate 8 0 ++ (names_body [] ++ mark_of Two ∷ l)) pages ∙ header)
-    ∙ sym (append_assoc (little_bytes 8 1) (replicate 2038 0 ++ mark_of Two ∷ []) (replicate (512 * pages_of vars) 0))
+    ∙ sym (append_assoc (replicate 2038 0) (version_byte Two ∷ []) (replicate (512 * pages_of vars) 0)) in
+    ap (λ (l : List ℕ). little_bytes 8 1 ++ l) (ap (λ (l : List ℕ). replicate 8 0 ++ (names_body [] ++ version_byte Two ∷ l)) pages ∙ header)
+    ∙ sym (append_assoc (little_bytes 8 1) (replicate 2038 0 ++ version_byte Two ∷ []) (replicate (512 * pages_of vars) 0))
 
 -- an offset that holds 0 is a closed gate
 pub closed_at_zero : (at : ℕ) (c : List ℕ) → slice_get c at ≡ Some 0 → IsClosed at c
@@ -173,7 +173,7 @@ formatted_is vars slots some rest =
 
 -- how long the header is
 pub length-header_bytes : length header_bytes ≡ 2047
-length-header_bytes = joined (little_bytes 8 1) (replicate 2038 0 ++ mark_of Two ∷ []) 8 2039 (length-little_bytes 8 1) (joined (replicate 2038 0) (mark_of Two ∷ []) 2038 1 (length-replicate {A = ℕ} 2038 0) refl)
+length-header_bytes = joined (little_bytes 8 1) (replicate 2038 0 ++ version_byte Two ∷ []) 8 2039 (length-little_bytes 8 1) (joined (replicate 2038 0) (version_byte Two ∷ []) 2038 1 (length-replicate {A = ℕ} 2038 0) refl)
 
 -- zeros, over which an image's header was put and then block 0
 pub all_written : (vars slots e at : ℕ) (header numbers old zeroed with_image whole : List ℕ) → 1 ≤ slots → e ≡ end_at vars slots → at ≡ 512 → header ≡ header_bytes → numbers ≡ block_body Two vars slots

@@ -11,7 +11,7 @@ use Rattle.tmem_gate.proofs.Laws.{WritesWithin-trans}
 use Rattle.tmem_record.specs.Layout.{image_at, image_size, slot_at}
 use Rattle.tmem_effect.specs.State.{State}
 use Rattle.tmem_state.specs.declared.version.Version.TheVariants.{One, Two}
-use Rattle.tmem_redolog.proofs.Laws.{looks_given}
+use Rattle.tmem_redolog.proofs.Laws.{reads_only_given}
 use Rattle.tmem_journal.specs.Mended.{MendsDevice, RecoveredBy, RecoversDevice}
 use Rattle.tmem_journal.specs.Refusals.{IsRefusedBy, IsWhyFound}
 use Rattle.tmem_journal.specs.Contents.{Position, ContentRepresents, ContentRepresentsState, IsSpentAt}
@@ -38,8 +38,8 @@ mends_given vars slots old new it = record {
   any_moment = record { each = λ k c left. (it k).any_moment.each k c left };
   seen = λ k. (it k).seen k;
   elsewhere = within_given (slot_at vars 0) (4096 * slots) old new (λ k. (it k).elsewhere);
-  looks = λ p s stands closed. looks_given old new (λ k. (it k).looks p s stands closed);
-  damaged_looks = λ none. looks_given old new (λ k. (it k).damaged_looks none);
+  reads_only = λ p s stands closed. reads_only_given old new (λ k. (it k).reads_only p s stands closed);
+  damaged_reads_only = λ none. reads_only_given old new (λ k. (it k).damaged_reads_only none);
 }
 
 -- no call at all

@@ -2,9 +2,9 @@
 use Rattle.std.proofs.Common.{◌≡◌, ◌≤◌, ℕ, List, sym, ◌∙◌, subst}
 use Rattle.tmem_disk.specs.Disk.{DeviceView, LeavesOnly, IsSynced}
 use Rattle.tmem_disk.proofs.Laws.{IsSynced-after}
-use Rattle.tmem_gate.specs.Calls.{LooksOnly}
+use Rattle.tmem_gate.specs.Calls.{OnlyReads}
 use Rattle.tmem_gate.specs.Gate.{IsOpenOver}
-use Rattle.tmem_gate.proofs.Laws.{LooksOnly-trans}
+use Rattle.tmem_gate.proofs.Laws.{OnlyReads-trans}
 use Rattle.tmem_record.specs.Layout.{image_at}
 use Rattle.tmem_record.specs.Stale.{IsStale}
 use Rattle.tmem_effect.specs.State.{State}
@@ -83,16 +83,16 @@ pub leaves_seen : {d : DeviceView} {P : List ℕ → Type 0} → IsSynced d → 
 leaves_seen {P = P} synced holds = record { each = λ k c left. subst P (sym (synced k c left)) (holds k) }
 
 -- four calls that only look, and a fifth
-pub looking_four : (a b c d e : DeviceView) → (c.keeps_model → b.keeps_model) → (d.keeps_model → c.keeps_model) → (e.keeps_model → d.keeps_model) → LooksOnly a b → LooksOnly b c → LooksOnly c d → LooksOnly d e → LooksOnly a e
-looking_four a b c d e m1 m2 m3 l1 l2 l3 l4 = LooksOnly-trans a d e m3 (LooksOnly-trans a c d m2 (LooksOnly-trans a b c m1 l1 l2) l3) l4
+pub looking_four : (a b c d e : DeviceView) → (c.keeps_model → b.keeps_model) → (d.keeps_model → c.keeps_model) → (e.keeps_model → d.keeps_model) → OnlyReads a b → OnlyReads b c → OnlyReads c d → OnlyReads d e → OnlyReads a e
+looking_four a b c d e m1 m2 m3 l1 l2 l3 l4 = OnlyReads-trans a d e m3 (OnlyReads-trans a c d m2 (OnlyReads-trans a b c m1 l1 l2) l3) l4
 
 pub looking : (a b c d e f : DeviceView) → (c.keeps_model → b.keeps_model) → (d.keeps_model → c.keeps_model) → (e.keeps_model → d.keeps_model) → (f.keeps_model → e.keeps_model)
-    → LooksOnly a b → LooksOnly b c → LooksOnly c d → LooksOnly d e → LooksOnly e f → LooksOnly a f
-looking a b c d e f m1 m2 m3 m4 l1 l2 l3 l4 l5 = LooksOnly-trans a e f m4 (looking_four a b c d e m1 m2 m3 l1 l2 l3 l4) l5
+    → OnlyReads a b → OnlyReads b c → OnlyReads c d → OnlyReads d e → OnlyReads e f → OnlyReads a f
+looking a b c d e f m1 m2 m3 m4 l1 l2 l3 l4 l5 = OnlyReads-trans a e f m4 (looking_four a b c d e m1 m2 m3 l1 l2 l3 l4) l5
 
 -- four calls that only look, of a synced device
 pub synced_since : (a b c d e : DeviceView) → (b.keeps_model → a.keeps_model) → (c.keeps_model → b.keeps_model) → (d.keeps_model → c.keeps_model) → (e.keeps_model → d.keeps_model)
-    → LooksOnly a b → LooksOnly b c → LooksOnly c d → LooksOnly d e → IsSynced a → IsSynced e
+    → OnlyReads a b → OnlyReads b c → OnlyReads c d → OnlyReads d e → IsSynced a → IsSynced e
 synced_since a b c d e m1 m2 m3 m4 l1 l2 l3 l4 synced =
     let since = looking_four a b c d e m2 m3 m4 l1 l2 l3 l4 in
     IsSynced-after a e (λ k. m1 (m2 (m3 (m4 k)))) since.crash since.seen synced

@@ -33,9 +33,9 @@ rest_is n a0 a1 a2 a3 a4 r1 r2 r3 r4 l12 l23 l34 e1 e2 e3 e4 is =
     e4 ∙ drop_further r3 r4 a3 a2 l34 e3 ∙ drop_further r2 r4 a2 a1 (omega arith) e2 ∙ drop_further r1 r4 a1 a0 (omega arith) e1 ∙ ap (drop r4) is ∙ drop-replicate r4 n 0
 
 -- a number of eight bytes in front of zeros, and a byte behind them: put into a buffer of zeros one after the other
-pub header_is : (m : ℕ) (z a b gen : List ℕ) (r1 r2 mark : ℕ) → 8 ≤ m → z ≡ replicate (m + 1) 0 → length gen ≡ 8 → r1 ≡ 8 → take r1 a ≡ gen → drop r1 a ≡ drop r1 z → r2 ≡ m + 1 → take r2 b ≡ take m a ++ mark ∷ [] → drop r2 b ≡ drop r2 a
-    → b ≡ gen ++ (replicate (m - 8) 0 ++ mark ∷ [])
-header_is m z a b gen r1 r2 mark room zeros long at_8 first rest at_end second last =
+pub header_is : (m : ℕ) (z a b gen : List ℕ) (r1 r2 byte : ℕ) → 8 ≤ m → z ≡ replicate (m + 1) 0 → length gen ≡ 8 → r1 ≡ 8 → take r1 a ≡ gen → drop r1 a ≡ drop r1 z → r2 ≡ m + 1 → take r2 b ≡ take m a ++ byte ∷ [] → drop r2 b ≡ drop r2 a
+    → b ≡ gen ++ (replicate (m - 8) 0 ++ byte ∷ [])
+header_is m z a b gen r1 r2 byte room zeros long at_8 first rest at_end second last =
     let blank : List ℕ = replicate (m - 8) 0 in
     let left : m + 1 - r1 ≡ m - 8 + 1 = omega arith in
     let none : m + 1 - r2 ≡ 0 = omega arith in
@@ -44,4 +44,4 @@ header_is m z a b gen r1 r2 mark room zeros long at_8 first rest at_end second l
     let all : length (gen ++ blank) ≡ m = omega (arith, length-append gen blank, length-replicate {A = ℕ} (m - 8) 0) in
     let front : take m a ≡ gen ++ blank = ap (take m) whole ∙ take_at (gen ++ blank) (replicate 1 0) m all in
     let nothing : drop r2 b ≡ [] = last ∙ drop_further r1 r2 a z (omega arith) rest ∙ ap (drop r2) zeros ∙ drop-replicate r2 (m + 1) 0 ∙ ap (λ (k : ℕ). replicate k 0) none in
-    sym (take-append-drop r2 b) ∙ ap (λ (l : List ℕ). l ++ drop r2 b) (second ∙ ap (λ (l : List ℕ). l ++ mark ∷ []) front) ∙ ap (λ (l : List ℕ). ((gen ++ blank) ++ mark ∷ []) ++ l) nothing ∙ append-nil ((gen ++ blank) ++ mark ∷ []) ∙ append_assoc gen blank (mark ∷ [])
+    sym (take-append-drop r2 b) ∙ ap (λ (l : List ℕ). l ++ drop r2 b) (second ∙ ap (λ (l : List ℕ). l ++ byte ∷ []) front) ∙ ap (λ (l : List ℕ). ((gen ++ blank) ++ byte ∷ []) ++ l) nothing ∙ append-nil ((gen ++ blank) ++ byte ∷ []) ∙ append_assoc gen blank (byte ∷ [])

@@ -2,7 +2,7 @@
 use Rattle.std.specs.Prelude.{ℕ, ◌-◌, List, [], ◌∷◌, ◌++◌, replicate}
 use Rattle.byteorder.specs.Endian.{little_bytes}
 use Rattle.tmem_effect.specs.State.{first_state}
-use Rattle.tmem_state.specs.Versions.{mark_of}
+use Rattle.tmem_state.specs.Versions.{version_byte}
 use Rattle.tmem_state.specs.declared.version.Version.TheVariants.{Two}
 use Rattle.tmem_record.specs.Layout.{image_at, end_at}
 use Rattle.tmem_image.specs.Spelling.{image_body}
@@ -12,9 +12,9 @@ use Rattle.tmem_journal.specs.BlockSpelling.{block_body}
 abbrev pub open_cell : List ℕ → List ℕ
 open_cell body = 0xA5 ∷ body
 
--- what stands in front of the pages of the first image: generation 1, no transaction and no name, and the mark of version 2
+-- what stands in front of the pages of the first image: generation 1, no transaction and no name, and the version byte of version 2
 abbrev pub header_bytes : List ℕ
-header_bytes = little_bytes 8 1 ++ (replicate 2038 0 ++ mark_of Two ∷ [])
+header_bytes = little_bytes 8 1 ++ (replicate 2038 0 ++ version_byte Two ∷ [])
 
 -- Block 0 of version 2 with these numbers, image copy 0 of version 2 and generation 1 with the first state, and 0 from image
 -- copy 1 to the end.

@@ -1,7 +1,7 @@
 -- What an opening makes of a content: recovery closes gates behind the log, and a migration writes an image of version 2.
 use Rattle.std.specs.Prelude.{◌≡◌, ◌≢◌, ◌<◌, ◌≤◌, ◌⊎◌, ◌+◌, ◌*◌, ℕ, List, slice_get}
 use Rattle.tmem_disk.specs.Disk.{DeviceView, SameOutside, AtEachMoment}
-use Rattle.tmem_gate.specs.Calls.{LooksOnly, WritesWithin}
+use Rattle.tmem_gate.specs.Calls.{OnlyReads, WritesWithin}
 use Rattle.tmem_gate.specs.Gate.{IsOpenAt, IsClosed}
 use Rattle.tmem_record.specs.Layout.{image_at, image_size, slot_at}
 use Rattle.tmem_effect.specs.State.{State}
@@ -34,8 +34,8 @@ pub record MendsDevice (vars slots : ℕ) (old new : DeviceView) : Type 0 where
   pub any_moment : AtEachMoment old new (MendedBy vars slots old)
   pub seen : new.keeps_model → Mends vars slots old.seen new.seen
   pub elsewhere : WritesWithin (slot_at vars 0) (4096 * slots) old new
-  pub looks : (p : Position) (s : State) → ContentRepresents vars slots p s old.seen → ClosedFrom vars slots p.used old.seen → LooksOnly old new
-  pub damaged_looks : ((p : Position) (s : State) → ¬ ContentRepresents vars slots p s old.seen) → LooksOnly old new
+  pub reads_only : (p : Position) (s : State) → ContentRepresents vars slots p s old.seen → ClosedFrom vars slots p.used old.seen → OnlyReads old new
+  pub damaged_reads_only : ((p : Position) (s : State) → ¬ ContentRepresents vars slots p s old.seen) → OnlyReads old new
 
 -- whatever state the first content represents, the second represents, at any position
 abbrev pub Recovers : ℕ → ℕ → List ℕ → List ℕ → Type 0

@@ -14,7 +14,7 @@ use crate::calls::put_cell;
 use tmem_disk::Disk;
 use tmem_fault::Fault;
 use tmem_gate::device::{sync, write};
-use tmem_image::{HEADER_BODY_BYTES, MARK_AT};
+use tmem_image::{HEADER_BODY_BYTES, VERSION_BYTE_AT};
 use tmem_record::Layout;
 use tmem_record::bytes::put;
 use tmem_state::Version;
@@ -68,13 +68,13 @@ fn build<D: Disk>(disk: &mut D, layout: Layout) -> Result<(), Fault>
     put_cell(disk, 0, &block)
 }
 
-// The header of the first image, without its gate: generation 1, no transaction and no name, and the mark of version 2.
+// The header of the first image, without its gate: generation 1, no transaction and no name, and the version byte of version 2.
 fn first_header() -> [u8; HEADER_BODY_BYTES]
     ensures { result ≡ header_bytes }
 {
     let mut bytes = [0; HEADER_BODY_BYTES];
     put(&mut bytes, 0, &1u64.to_le_bytes());
-    put(&mut bytes, MARK_AT, &[Version::Two.mark()]);
+    put(&mut bytes, VERSION_BYTE_AT, &[Version::Two.byte()]);
     bytes
 }
 

@@ -1,7 +1,7 @@
 // The journal: a device, and the state that it represents.
 ghost use Rattle.std.specs.Prelude.{◌≡◌, ◌≢◌, ◌≤◌, ◌<◌, ◌+◌, ◌*◌, ◌⊎◌, ℕ, [], false, Some, length, All, IfOk, IfErr, IfSome, IsErrOf};
 ghost use Rattle.tmem_disk.specs.Disk.{LeavesOnly, AtEachMoment, SameSeenOutside, IsSynced, IsWriteOrSync};
-ghost use Rattle.tmem_gate.specs.Calls.{Uses, LooksOnly, WritesWithin};
+ghost use Rattle.tmem_gate.specs.Calls.{Uses, OnlyReads, WritesWithin};
 ghost use Rattle.tmem_gate.specs.Gate.{HasBody, StandsClosed};
 ghost use Rattle.tmem_effect.specs.State.{State as StateOf, fold, StaysWithin};
 ghost use Rattle.tmem_record.specs.Spelling.{batch_bytes};
@@ -89,7 +89,7 @@ pub struct Journal<D: Disk> {
     /// While it is open, each slot behind the log stands closed.
     pub ghost ahead: { is_closed ≡ false → (k : ℕ) → log.used ≤ k → k < layout.slots → StandsClosed (slot_at layout.vars k) (D.view disk) },
 
-    /// While it is open, each page that is not marked as changed holds the state's values after every crash, in the chosen copy.
+    /// While it is open, each page that the journal does not take for changed holds the state's values after every crash, in the chosen copy.
     pub ghost chosen_pages: { is_closed ≡ false → LeavesOnly (D.view disk) (HoldsOthers (pages_at layout.vars copy) layout.vars changed.chosen state.values) },
 
     /// So it does in the other copy.
@@ -155,7 +155,7 @@ impl<D: Disk> Journal<D> {
             → SameBesideCopy vars slots (other_copy p.copy) (D.view disk).seen (journal_device_after result).seen }
 
         // Nothing at all is written before a refusal other than `Device` and `Spent`.
-        ensures refused_looks { IfErr result (λ e. e.0 ≢ Fault.Device → e.0 ≢ Fault.Spent → LooksOnly (D.view disk) (D.view e.1)) }
+        ensures refused_reads_only { IfErr result (λ e. e.0 ≢ Fault.Device → e.0 ≢ Fault.Spent → OnlyReads (D.view disk) (D.view e.1)) }
 
         // Where every crash left one of two states, that one is found, unless memory or the device fails, or it cannot be
         // migrated.

@@ -1,7 +1,7 @@
 // Recovery, and then an image of version 2 where the one that was found is of version 1.
 ghost use Rattle.std.specs.Prelude.{◌≡◌, ◌≢◌, ◌⊎◌, ◌<◌, ◌≤◌, ◌+◌, ◌*◌, ℕ, length, IfOk, OnOk, IfErr};
 ghost use Rattle.tmem_disk.specs.Disk.{AtEachMoment, IsSynced, LeavesOnly};
-ghost use Rattle.tmem_gate.specs.Calls.{Uses, LooksOnly, WritesWithin};
+ghost use Rattle.tmem_gate.specs.Calls.{Uses, OnlyReads, WritesWithin};
 ghost use Rattle.tmem_gate.specs.Gate.{StandsClosed};
 ghost use Rattle.tmem_record.specs.Layout.{image_at, image_size, slot_at, end_at};
 ghost use Rattle.tmem_effect.specs.State.{State};
@@ -45,7 +45,7 @@ pub(crate) fn recover_current<D: Disk>(
     // In a migration a read gives what it gave before, but in the copy that is not chosen, and for open gates of the log.
     ensures migrates { (D.view disk.new).keeps_model → (p : Position) (s : State) → ContentRepresents layout.vars layout.slots p s (D.view disk.old).seen
         → SameBesideCopy layout.vars layout.slots (other_copy p.copy) (D.view disk.old).seen (D.view disk.new).seen }
-    ensures refused_looks { IfErr result (λ f. f ≢ Fault.Device → f ≢ Fault.Spent → LooksOnly (D.view disk.old) (D.view disk.new)) }
+    ensures refused_reads_only { IfErr result (λ f. f ≢ Fault.Device → f ≢ Fault.Spent → OnlyReads (D.view disk.old) (D.view disk.new)) }
     ensures synced { OnOk result (IsSynced (D.view disk.new)) }
     ensures sure { IfOk result (λ f. LeavesOnly (D.view disk.new) (ContentRepresents layout.vars layout.slots (position_in f.copy f.log) f.state)) }
     ensures closed { IfOk result (λ f. (k : ℕ) → f.log.used ≤ k → k < layout.slots → StandsClosed (slot_at layout.vars k) (D.view disk.new)) }

@@ -1,6 +1,6 @@
 // Block 0 of a device, by one read.
 ghost use Rattle.std.specs.Prelude.{◌≤◌, IfOk, IfErr};
-ghost use Rattle.tmem_gate.specs.Calls.{Uses, LooksOnly};
+ghost use Rattle.tmem_gate.specs.Calls.{Uses, OnlyReads};
 ghost use Rattle.tmem_gate.specs.Gate.{IsOpenOver};
 ghost use Rattle.tmem_record.specs.Layout.{end_at};
 ghost use Rattle.tmem_journal.specs.BlockSpelling.{block_body};
@@ -19,7 +19,7 @@ use tmem_state::Version;
 pub(crate) fn found_block<D: Disk>(disk: &mut D, layout: Layout) -> Result<Version, Fault>
     requires { end_at layout.vars layout.slots ≤ (D.view disk.old).capacity }
     ensures uses { Uses (D.view disk.old) (D.view disk.new) result }
-    ensures looks { LooksOnly (D.view disk.old) (D.view disk.new) }
+    ensures reads_only { OnlyReads (D.view disk.old) (D.view disk.new) }
     ensures found { (D.view disk.new).keeps_model → IfOk result (λ version. IsOpenOver 0 (block_body version layout.vars layout.slots) (D.view disk.old).seen) }
     ensures refused { IfErr result (IsWhyRead (λ f. (D.view disk.new).keeps_model → IsBlockBy layout.vars layout.slots (D.view disk.old).seen f)) }
 {

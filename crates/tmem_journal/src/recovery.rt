@@ -1,7 +1,7 @@
 // Recovery: finds the state that a device represents.
 ghost use Rattle.std.specs.Prelude.{◌≡◌, ◌≢◌, ◌≤◌, ◌<◌, ℕ, length, IfOk, OnOk, IfErr};
 ghost use Rattle.tmem_disk.specs.Disk.{IsSynced};
-ghost use Rattle.tmem_gate.specs.Calls.{Uses, LooksOnly};
+ghost use Rattle.tmem_gate.specs.Calls.{Uses, OnlyReads};
 ghost use Rattle.tmem_gate.specs.Gate.{StandsClosed};
 ghost use Rattle.tmem_record.specs.Layout.{slot_at, end_at};
 ghost use Rattle.tmem_image.specs.Image.{IsGeneration};
@@ -47,7 +47,7 @@ pub(crate) fn recover<D: Disk>(
     ensures found { (D.view disk.new).keeps_model → IfOk result (λ f. ContentRepresents layout.vars layout.slots (position_at f.version f.copy f.log) f.state (D.view disk.old).seen) }
     ensures refused { IfErr result (IsWhyRead (λ f. (D.view disk.new).keeps_model → IsRefusedBy layout.vars layout.slots (D.view disk.old).seen f)) }
     ensures mends { MendsDevice layout.vars layout.slots (D.view disk.old) (D.view disk.new) }
-    ensures refused_looks { IfErr result (λ f. f ≢ Fault.Device → LooksOnly (D.view disk.old) (D.view disk.new)) }
+    ensures refused_reads_only { IfErr result (λ f. f ≢ Fault.Device → OnlyReads (D.view disk.old) (D.view disk.new)) }
     ensures synced { OnOk result (IsSynced (D.view disk.new)) }
     ensures closed { IfOk result (λ f. (k : ℕ) → f.log.used ≤ k → k < layout.slots → StandsClosed (slot_at layout.vars k) (D.view disk.new)) }
     ensures one { IfOk result (λ f. f.copy ≤ 1) }
@@ -74,7 +74,7 @@ fn look_up<D: Disk>(
     ensures uses { Uses (D.view disk.old) (D.view disk.new) result }
     ensures found { (D.view disk.new).keeps_model → IfOk result (λ f. ContentRepresents layout.vars layout.slots (position_at f.version f.copy f.log) f.state (D.view disk.old).seen) }
     ensures refused { IfErr result (IsWhyRead (λ f. (D.view disk.new).keeps_model → IsRefusedBy layout.vars layout.slots (D.view disk.old).seen f)) }
-    ensures looks { LooksOnly (D.view disk.old) (D.view disk.new) }
+    ensures reads_only { OnlyReads (D.view disk.old) (D.view disk.new) }
     ensures synced { OnOk result (IsSynced (D.view disk.new)) }
     ensures one { IfOk result (λ f. f.copy ≤ 1) }
     ensures number { IfOk result (λ f. IsGeneration f.log.generation) }

@@ -5,7 +5,7 @@ use Rattle.std.proofs.Props.{props}
 use Rattle.tmem_disk.specs.Disk.{DeviceView, IsDevice, SameDevice}
 use Rattle.tmem_fault.specs.declared.fault.Fault.{Fault}
 use Rattle.tmem_fault.specs.declared.fault.Fault.TheVariants as fault
-use Rattle.tmem_gate.specs.Calls.{Uses, LooksOnly, failures_after}
+use Rattle.tmem_gate.specs.Calls.{Uses, OnlyReads, failures_after}
 use Rattle.tmem_effect.specs.State.{State}
 use Rattle.tmem_invariants.specs.Meanings.{IsSound}
 use Rattle.tmem_core.specs.Opening.{IsOpeningRefusal, opening_fault}
@@ -71,7 +71,7 @@ closes vars slots old new device mends = record {
   any_moment = mends.any_moment;
   crash = record { each = λ k c left. mends.any_moment.each k c (device.counts_now old.moment c k (mends.elsewhere.time.later k) left) };
   elsewhere = mends.elsewhere;
-  looks = mends.looks;
+  reads_only = mends.reads_only;
 }
 
 pub mending : (vars slots : ℕ) (old new : DeviceView) → IsDevice new → RecoversDevice vars slots old new → (NeedsNoMigration vars slots old.seen → MendsDevice vars slots old new) → Mending vars slots old new
@@ -83,15 +83,15 @@ mending vars slots old new device recovers mends = record {
 
 module _ (AreTheirs : Program → Type 0) (vars slots : ℕ) (old new : DeviceView) (f : Fault) (mends : Mending vars slots old new) where
   -- no journal was opened
-  pub journal_refused : IsDevice new → Uses {T = Unit {0}} old new (Err f) → IsOpeningRefused old vars slots f new → (f ≢ fault.Device → f ≢ fault.Spent → LooksOnly old new) → (f ≡ fault.Spent → MendsDevice vars slots old new)
+  pub journal_refused : IsDevice new → Uses {T = Unit {0}} old new (Err f) → IsOpeningRefused old vars slots f new → (f ≢ fault.Device → f ≢ fault.Spent → OnlyReads old new) → (f ≡ fault.Spent → MendsDevice vars slots old new)
       → (f ≡ fault.Memory → SameDevice old new) → OpeningRefused AreTheirs vars slots old f new
-  journal_refused device uses refused looks spent untouched = record {
+  journal_refused device uses refused reads_only spent untouched = record {
     uses = uses;
     mends = mends;
     numbers = refused.numbers;
     why = inl refused.why;
     memory = λ is. inl (untouched is);
-    early = λ tells. looks (tells_no_device f tells).0 (tells_no_device f tells).1;
+    early = λ tells. reads_only (tells_no_device f tells).0 (tells_no_device f tells).1;
     spent = λ is. closes vars slots old new device (spent is);
   }
 

@@ -3,7 +3,7 @@ use Rattle.std.specs.Prelude.{◌≡◌, ◌⊎◌, ⊤, ℕ, ◌*◌, length, S
 use Rattle.tmem_disk.specs.Disk.{DeviceView, LeavesOnly, AtEachMoment, SameDevice}
 use Rattle.tmem_fault.specs.declared.fault.Fault.{Fault}
 use Rattle.tmem_fault.specs.declared.fault.Fault.TheVariants.{Memory, NotFormatted, Damaged, Geometry, Missing, Broken, Spent}
-use Rattle.tmem_gate.specs.Calls.{Uses, LooksOnly, WritesWithin}
+use Rattle.tmem_gate.specs.Calls.{Uses, OnlyReads, WritesWithin}
 use Rattle.tmem_effect.specs.State.{State}
 use Rattle.tmem_record.specs.Layout.{slot_at}
 use Rattle.tmem_invariants.specs.Meanings.{Meanings, IsSound}
@@ -18,8 +18,8 @@ use Rattle.tmem_opening.specs.declared.opening.Opening.{Opening}
 use Rattle.tmem_opening.specs.Held.{found_of, opening_position, opening_layout, opening_device, opening_table}
 
 -- nothing was written, where the gates behind the log read closed
-abbrev pub LooksWhereClosed : ℕ → ℕ → DeviceView → DeviceView → Type 0
-LooksWhereClosed vars slots old new = (p : Position) (s : State) → ContentRepresents vars slots p s old.seen → ClosedFrom vars slots p.used old.seen → LooksOnly old new
+abbrev pub ReadsWhereClosed : ℕ → ℕ → DeviceView → DeviceView → Type 0
+ReadsWhereClosed vars slots old new = (p : Position) (s : State) → ContentRepresents vars slots p s old.seen → ClosedFrom vars slots p.used old.seen → OnlyReads old new
 
 -- Gates that read open behind the log may be closed, and nothing else was written: nothing outside the log's slots, and nothing at
 -- all where these gates read closed. A crash at any moment of it, or after it, leaves what it might have left before, but for such
@@ -29,7 +29,7 @@ pub record ClosesGates (vars slots : ℕ) (old new : DeviceView) : Type 0 where
   pub any_moment : AtEachMoment old new (MendedBy vars slots old)
   pub crash : LeavesOnly new (MendedBy vars slots old)
   pub elsewhere : WritesWithin (slot_at vars 0) (4096 * slots) old new
-  pub looks : LooksWhereClosed vars slots old new
+  pub reads_only : ReadsWhereClosed vars slots old new
 
 -- What an opening did to a device, whatever it answered. A read gives a content that represents the state that it represented, and so
 -- does what a crash leaves, at any moment of it or after it. Neither block 0 was written, nor anything behind the log's slots. Where
@@ -85,7 +85,7 @@ pub record OpeningRefused (AreTheirs : Program → Type 0) (vars slots : ℕ) (o
   pub numbers : ¬ FitsOn vars slots old.capacity → f ≡ Geometry
   pub why : IsWhyNot (λ g. new.keeps_model → FitsOn vars slots old.capacity → IsRefusedBy vars slots old.seen g) (FindsUnsound AreTheirs vars slots old f new) f
   pub memory : f ≡ Memory → SameDevice old new ⊎ FindsSound AreTheirs vars slots old new
-  pub early : TellsOfContent f → LooksOnly old new
+  pub early : TellsOfContent f → OnlyReads old new
   pub spent : f ≡ Spent → ClosesGates vars slots old new
 
 -- What opening a device of these numbers found, with this table, and what it did to the device.

@@ -44,8 +44,8 @@ pub enum FormatFlaw {
     NoName,
     /// The name does not come behind the one before it.
     NotAscending,
-    /// The header of an image ends with the mark of no version.
-    Mark,
+    /// The header of an image ends with a byte that no version has.
+    VersionByte,
     /// The image is of an earlier version than block 0.
     Earlier,
     /// The image is of version 1 and of the last generation, so that none of version 2 can follow.
@@ -96,7 +96,7 @@ impl FormatFlaw {
             FormatFlaw::TooManyNames => "there are more than 64 names",
             FormatFlaw::NoName => "no name stands here",
             FormatFlaw::NotAscending => "the name does not come behind the one before it",
-            FormatFlaw::Mark => "no version of an image has this mark",
+            FormatFlaw::VersionByte => "no version of the format has this version byte",
             FormatFlaw::Earlier => "the image is of an earlier version than block 0",
             FormatFlaw::Last => "the generation is the last one, and the image is of version 1",
             FormatFlaw::First => "the number of the first record does not follow on",

@@ -1,6 +1,6 @@
 //! A world that is open, and what is played on it.
 ghost use Rattle.std.specs.Prelude.{◌≡◌, IfOk};
-ghost use Rattle.tmem_world.specs.Represents.{numbers_of, HoldsSession};
+ghost use Rattle.tmem_world.specs.Represents.{numbers_of, HasCore};
 
 use crate::Mode;
 use crate::calls::{CallCounts, CountedSteps};
@@ -59,7 +59,7 @@ fn opened<T: Invariants + Drop, S: StoredSteps + Drop>(
     steps: S,
 ) -> Result<OpenWorld<T, S>, Fault>
     requires { T.vars table ≡ numbers.vars }
-    ensures { IfOk result (λ session. HoldsSession session.world) }
+    ensures { IfOk result (λ session. HasCore session.world) }
 {
     let Numbers { vars, slots } = numbers;
     let held = mem::replace(disk, SimDisk::new(alloc, 0)?);
@@ -96,7 +96,7 @@ impl<T: Invariants + Drop, S: StoredSteps + Drop> OpenWorld<T, S> {
         calls: &CallCounts,
         out: &mut W,
     ) -> io::Result<()>
-        requires { HoldsSession self.old.world }
+        requires { HasCore self.old.world }
     {
         writeln!(out, "opened {}", self.world.count())?;
         out.flush()?;
@@ -165,7 +165,7 @@ impl<T: Invariants + Drop, S: StoredSteps + Drop> OpenWorld<T, S> {
 
     // Prints the names that are registered.
     fn print_names<W: Write>(&self, out: &mut W) -> io::Result<()>
-        requires { HoldsSession self.now.world }
+        requires { HasCore self.now.world }
     {
         let mut count = 0;
         for name in &names() {
@@ -179,7 +179,7 @@ impl<T: Invariants + Drop, S: StoredSteps + Drop> OpenWorld<T, S> {
 
     // Prints the values, to the end of the line.
     fn print_values<W: Write>(&self, out: &mut W) -> io::Result<()>
-        requires { HoldsSession self.now.world }
+        requires { HasCore self.now.world }
     {
         out.write_all(b" values=")?;
         for var in 0..self.vars {

@@ -15,7 +15,7 @@ use Rattle.std.proofs.lemmas.Slice.Eq.{bytes_eq-Decides}
 use Rattle.byteorder.specs.Endian.{little_bytes, little_number}
 use Rattle.byteorder.specs.Numbers.{little_from-lt}
 use Rattle.tmem_fault.specs.Name.{IsName}
-use Rattle.tmem_effect.specs.State.{AreWrites, AreChecks, variables, look, with_write, has_name, with_name}
+use Rattle.tmem_effect.specs.State.{AreWrites, AreChecks, variables, value_in, with_write, has_name, with_name}
 use Rattle.tmem_effect.specs.declared.effect.Effect.{Effect}
 use Rattle.tmem_effect.specs.Prefix.{IsPrefix}
 use Rattle.tmem_state.specs.Versions.{MayRetire}
@@ -23,7 +23,7 @@ use Rattle.tmem_state.specs.declared.version.Version.{Version}
 use Rattle.tmem_state.specs.declared.version.Version.TheVariants.{One}
 use Rattle.tmem_state.specs.Batch.{records_length_in, IsRecordIn, IsBatchIn}
 use Rattle.tmem_record.specs.Spelling.{number_bytes, value_bytes, write_bytes, name_bytes, writes_bytes, names_bytes, retired_bytes, record_bytes, batch_bytes, SpellsBatch}
-use Rattle.tmem_effect.proofs.Laws.{IsPrefix-append, IsPrefix-rest, AreChecks-push, is_some-look, AreWrites-push}
+use Rattle.tmem_effect.proofs.Laws.{IsPrefix-append, IsPrefix-rest, AreChecks-push, is_some-value_in, AreWrites-push}
 use Rattle.tmem_record.proofs.CodecWrites.{length-records}
 use Rattle.tmem_record.proofs.SpellingLaws.{IsBytes, take-spelled, Delimits, IsWriteWithin, AreWritesWithin, each_write, writes_within, same_cons, length-number_bytes, length-write_bytes, delimits_number, delimits_write, delimits_name, delimits_writes, delimits_names, delimits_all, AreRetiredIn, retired_in, delimits_retired, record_parts, delimits_record, batch_parts, head_of}
 
@@ -163,21 +163,21 @@ no_writes vars = record {
 }
 
 -- a variable that is not written joins the writes at their end
-with_write_new : (ws : List (ℕ × ℤ)) (var : ℕ) (value : ℤ) → IsNone (look ws var) → with_write ws var value ≡ ws ++ (var, value) ∷ []
+with_write_new : (ws : List (ℕ × ℤ)) (var : ℕ) (value : ℤ) → IsNone (value_in ws var) → with_write ws var value ≡ ws ++ (var, value) ∷ []
 with_write_new [] var value new = refl
 with_write_new (w ∷ ws) var value new = by (nat_eq var w.0) (with_write_new ws var value) new
   where
-    by : (b : Bool) → (IsNone (look ws var) → with_write ws var value ≡ ws ++ (var, value) ∷ []) → IsNone (cond b (Some w.1) (look ws var)) → cond b ((var, value) ∷ ws) (w ∷ with_write ws var value) ≡ w ∷ (ws ++ (var, value) ∷ [])
+    by : (b : Bool) → (IsNone (value_in ws var) → with_write ws var value ≡ ws ++ (var, value) ∷ []) → IsNone (cond b (Some w.1) (value_in ws var)) → cond b ((var, value) ∷ ws) (w ∷ with_write ws var value) ≡ w ∷ (ws ++ (var, value) ∷ [])
     by true rest written = cc
     by false rest new = ap (λ (l : List (ℕ × ℤ)). w ∷ l) (rest new)
 
 -- a variable that is written stands in one of the writes
-written_there : (ws : List (ℕ × ℤ)) (var : ℕ) → is_some (look ws var) ≡ true → Any (λ (u : ℕ × ℤ). u.0 ≡ var) ws
+written_there : (ws : List (ℕ × ℤ)) (var : ℕ) → is_some (value_in ws var) ≡ true → Any (λ (u : ℕ × ℤ). u.0 ≡ var) ws
 written_there ws var written =
-    let any = Any-from_list_any (λ (u : ℕ × ℤ). var == u.0) ws (sym (is_some-look ws var) ∙ written) in
+    let any = Any-from_list_any (λ (u : ℕ × ℤ). var == u.0) ws (sym (is_some-value_in ws var) ∙ written) in
     (any.0, any.1, any.2, any.3, sym (grind (arith, nat_tests, any.4)))
 
-not_twice : (ws zs : List (ℕ × ℤ)) (w : ℕ × ℤ) → AreWrites (ws ++ w ∷ zs) → is_some (look ws w.0) ≡ true → ⊥
+not_twice : (ws zs : List (ℕ × ℤ)) (w : ℕ × ℤ) → AreWrites (ws ++ w ∷ zs) → is_some (value_in ws w.0) ≡ true → ⊥
 not_twice ws zs w are written =
     let any = written_there ws w.0 written in
     let var : ℕ × ℤ → ℕ = λ u. u.0 in
@@ -194,7 +194,7 @@ not_twice ws zs w are written =
 abbrev pub ReadWrites : ℕ → ℕ → List (ℕ × ℤ) → List ℕ → List ℕ → Type 0
 ReadWrites vars i ws bytes rest = HasRead (AreWritesWithin vars) write_bytes i ws bytes rest
 
-pub write_more : (vars i : ℕ) (ws : List (ℕ × ℤ)) (w : ℕ × ℤ) (bytes rest next : List ℕ) → ReadWrites vars i ws bytes rest → i < 64 → IsWriteWithin vars w → IsNone (look ws w.0) → rest ≡ write_bytes w ++ next → ReadWrites vars (i + 1) (with_write ws w.0 w.1) bytes next
+pub write_more : (vars i : ℕ) (ws : List (ℕ × ℤ)) (w : ℕ × ℤ) (bytes rest next : List ℕ) → ReadWrites vars i ws bytes rest → i < 64 → IsWriteWithin vars w → IsNone (value_in ws w.0) → rest ≡ write_bytes w ++ next → ReadWrites vars (i + 1) (with_write ws w.0 w.1) bytes next
 write_more vars i ws w bytes rest next read room is new same =
     subst (λ (l : List (ℕ × ℤ)). ReadWrites vars (i + 1) l bytes next) (sym (with_write_new ws w.0 w.1 new))
     (read_more (AreWritesWithin vars) write_bytes i ws w bytes rest next read (record {
@@ -221,7 +221,7 @@ written vars few = record {
 }
 
 pub written_twice : (vars : ℕ) (few : vars ≤ 2 ^ 16) (count : ℕ) (bytes behind : List ℕ) → bytes ≡ count ∷ behind → (i : ℕ) (ws : List (ℕ × ℤ)) (rest : List ℕ) → ReadWrites vars i ws behind rest → i < count → (w : ℕ × ℤ) (next : List ℕ) → IsWriteWithin vars w → rest ≡ write_bytes w ++ next
-    → is_some (look ws w.0) ≡ true → (os : List (ℕ × ℤ)) (s : List ℕ) → AreWritesWithin vars os → bytes ≡ writes_bytes os ++ s → ⊥
+    → is_some (value_in ws w.0) ≡ true → (os : List (ℕ × ℤ)) (s : List ℕ) → AreWritesWithin vars os → bytes ≡ writes_bytes os ++ s → ⊥
 written_twice vars few count bytes behind parts i ws rest read less w next is here there os s are same =
     let more = one_more (written vars few) count bytes behind parts i ws rest read less w next is here os s are same in
     not_twice ws more.0 w (subst AreWrites more.1 are.are_writes) there

@@ -4,9 +4,9 @@ use Rattle.std.specs.Prelude.{slice_get, slice_range}
 use Rattle.std.proofs.lemmas.Bool.{cases_lt, cases_eq, false≢true}
 use Rattle.tmem_disk.specs.Disk.{DeviceView, IsDevice, ReadsAs, LeavesOnly, AtEachMoment, Elapses, IsSynced, SameOutside}
 use Rattle.tmem_disk.proofs.Laws.{SameOutside-refl, SameOutside-trans, SameOutside-wider, slice_get-before, slice_get-after, slice_range-before, slice_range-after, LeavesOnly-moment, LeavesOnly-synced, LeavesOnly-after, AtEachMoment-elapsed, AtEachMoment-trans, Elapses-more, Elapses-trans}
-use Rattle.tmem_gate.specs.Calls.{LooksOnly, WritesWithin, MadeBy}
+use Rattle.tmem_gate.specs.Calls.{OnlyReads, WritesWithin, MadeBy}
 use Rattle.tmem_gate.specs.Gate.{IsOpenAt, IsClosed, IsOpenOver}
-use Rattle.tmem_gate.proofs.Laws.{gate_cases, closed_along, closed_before, no_time, by_look, LooksOnly-trans, WritesWithin-refl, WritesWithin-wider, WritesWithin-trans}
+use Rattle.tmem_gate.proofs.Laws.{gate_cases, closed_along, closed_before, no_time, by_look, OnlyReads-trans, WritesWithin-refl, WritesWithin-wider, WritesWithin-trans}
 use Rattle.tmem_record.specs.Layout.{slot_at, end_at}
 use Rattle.tmem_record.specs.Spelling.{number_bytes}
 use Rattle.tmem_record.proofs.Laws.{length-number_bytes}
@@ -19,8 +19,8 @@ pub gate_fits : (vars slots k at room fits : ℕ) → k < slots → at ≡ slot_
 gate_fits vars slots k at room fits more there has same = omega (arith, more, there, has, same)
 
 -- what is said under the premise alone
-pub looks_given : (old new : DeviceView) → (new.keeps_model → LooksOnly old new) → LooksOnly old new
-looks_given old new given = record {
+pub reads_only_given : (old new : DeviceView) → (new.keeps_model → OnlyReads old new) → OnlyReads old new
+reads_only_given old new given = record {
   seen = λ k. (given k).seen k;
   crash = record { each = λ k c left. (given k).crash.each k c left };
   time = record {
@@ -141,14 +141,14 @@ module _ (vars slots from to : ℕ) (old now : DeviceView) (device : IsDevice ol
 
 -- one gate more
 module _ (vars slots from k : ℕ) (low : from ≤ k) (high : k < slots) (old mid new : DeviceView) (device : IsDevice old) (device_mid : IsDevice mid) (model : new.keeps_model → mid.keeps_model)
-    (before : Sets vars slots from k old mid) (within : WritesWithin (slot_at vars k) 1 mid new) (idle : IsClosed (slot_at vars k) mid.seen → LooksOnly mid new) where
+    (before : Sets vars slots from k old mid) (within : WritesWithin (slot_at vars k) 1 mid new) (idle : IsClosed (slot_at vars k) mid.seen → OnlyReads mid new) where
   -- the gate reads as it did before
   pub shut_in : mid.keeps_model → IsClosed (slot_at vars k) old.seen → IsClosed (slot_at vars k) mid.seen
   shut_in keeps shut = closed_along ((before.seen keeps).not_yet k (omega arith) high) shut
 
   -- where it read closed, it is not written
-  idle_given : IsClosed (slot_at vars k) old.seen → LooksOnly mid new
-  idle_given shut = looks_given mid new (λ keeps. idle (shut_in (model keeps) shut))
+  idle_given : IsClosed (slot_at vars k) old.seen → OnlyReads mid new
+  idle_given shut = reads_only_given mid new (λ keeps. idle (shut_in (model keeps) shut))
 
   seen_by : IsOpenAt (slot_at vars k) old.seen ⊎ IsClosed (slot_at vars k) old.seen → new.keeps_model → Aside vars slots from (k + 1) old.seen new.seen
   seen_by (inl open_now) keeps = Aside-next vars slots from k low high old.seen mid.seen new.seen open_now (before.seen (model keeps)) (within.seen keeps)
@@ -168,8 +168,8 @@ module _ (vars slots from k : ℕ) (low : from ≤ k) (high : k < slots) (old mi
   }
 
   -- with each gate closed before, nothing is written
-  pub idle_next : (mid.keeps_model → LooksOnly old mid) → ReadClosed vars from slots old → LooksOnly old new
-  idle_next looked closed = looks_given old new (λ keeps. LooksOnly-trans old mid new model (looked (model keeps)) (idle_given (closed k low high)))
+  pub idle_next : (mid.keeps_model → OnlyReads old mid) → ReadClosed vars from slots old → OnlyReads old new
+  idle_next looked closed = reads_only_given old new (λ keeps. OnlyReads-trans old mid new model (looked (model keeps)) (idle_given (closed k low high)))
 
   -- and the gates up to this one read closed, once this one does
   pub closed_next : (mid.keeps_model → ReadClosed vars from k mid) → new.keeps_model → IsClosed (slot_at vars k) new.seen → ReadClosed vars from (k + 1) new
@@ -187,12 +187,12 @@ pub record Closing (vars slots from to : ℕ) (old now : DeviceView) (any : Bool
   pub last : now.last_fault ≡ old.last_fault
   pub gates : Sets vars slots from to old now
   pub closed : now.keeps_model → ReadClosed vars from to now
-  pub looks : any ≡ false → LooksOnly old now
+  pub reads_only : any ≡ false → OnlyReads old now
   pub idle : now.keeps_model → ReadClosed vars from to old → any ≡ false
 
 -- with each gate closed before, nothing is written so far
-pub idle_so_far : (vars slots from k : ℕ) (old now : DeviceView) (any : Bool) → k ≤ slots → Closing vars slots from k old now any → ReadClosed vars from slots old → now.keeps_model → LooksOnly old now
-idle_so_far vars slots from k old now any few closing shut keeps = closing.looks (closing.idle keeps (λ j above below. shut j above (omega (arith, below, few))))
+pub idle_so_far : (vars slots from k : ℕ) (old now : DeviceView) (any : Bool) → k ≤ slots → Closing vars slots from k old now any → ReadClosed vars from slots old → now.keeps_model → OnlyReads old now
+idle_so_far vars slots from k old now any few closing shut keeps = closing.reads_only (closing.idle keeps (λ j above below. shut j above (omega (arith, below, few))))
 
 -- gates that read closed up to one do so up to an earlier one
 pub closed_up_to : (vars from to until : ℕ) (d : DeviceView) → until ≤ to → ReadClosed vars from to d → ReadClosed vars from until d
@@ -231,11 +231,11 @@ sets_closes vars slots used to generation old now device device_now sets = recor
     each synced = AtEachMoment-elapsed old now _ _ device sets.model (time synced) (LeavesOnly-synced old _ synced (λ k. made k old.seen (Aside-refl vars slots used to old.seen))) (λ k c it. it)
 
 -- and so it does over a call that writes nothing
-pub Closes-then_look : (vars slots generation used : ℕ) (old mid new : DeviceView) → IsDevice mid → (new.keeps_model → mid.keeps_model) → Closes vars slots generation used old mid → LooksOnly mid new → Closes vars slots generation used old new
-Closes-then_look vars slots generation used old mid new device model closes looks = record {
-  seen = λ k. subst (λ (l : List ℕ). Keeps vars slots generation used old.seen l) (sym (looks.seen k)) (closes.seen (model k));
-  elsewhere = WritesWithin-trans (slot_at vars used) (bytes_from used slots) old mid new model closes.elsewhere (by_look (slot_at vars used) (bytes_from used slots) mid new device model looks);
-  any_moment = λ synced. AtEachMoment-trans old mid new _ _ model closes.elsewhere.time.later (closes.any_moment synced) looks.time (λ k. (closes.crash synced).each (model k));
-  time = λ synced. Elapses-trans old mid new _ model (closes.time synced) (Elapses-more mid new _ _ looks.time (λ k. (closes.crash synced).each (model k)));
-  crash = λ synced. LeavesOnly-after mid new _ model looks.crash (closes.crash synced);
+pub Closes-then_look : (vars slots generation used : ℕ) (old mid new : DeviceView) → IsDevice mid → (new.keeps_model → mid.keeps_model) → Closes vars slots generation used old mid → OnlyReads mid new → Closes vars slots generation used old new
+Closes-then_look vars slots generation used old mid new device model closes reads_only = record {
+  seen = λ k. subst (λ (l : List ℕ). Keeps vars slots generation used old.seen l) (sym (reads_only.seen k)) (closes.seen (model k));
+  elsewhere = WritesWithin-trans (slot_at vars used) (bytes_from used slots) old mid new model closes.elsewhere (by_look (slot_at vars used) (bytes_from used slots) mid new device model reads_only);
+  any_moment = λ synced. AtEachMoment-trans old mid new _ _ model closes.elsewhere.time.later (closes.any_moment synced) reads_only.time (λ k. (closes.crash synced).each (model k));
+  time = λ synced. Elapses-trans old mid new _ model (closes.time synced) (Elapses-more mid new _ _ reads_only.time (λ k. (closes.crash synced).each (model k)));
+  crash = λ synced. LeavesOnly-after mid new _ model reads_only.crash (closes.crash synced);
 }

@@ -23,7 +23,7 @@ pub use Rattle.tmem_redolog.proofs.OneLog.{count-le, one_log}
 -- effects one after another, within the limits
 pub use Rattle.tmem_redolog.proofs.Replaying.{fold_next, within_next, stays_next, of_variables}
 -- what is said under the disk model alone
-pub use Rattle.tmem_redolog.proofs.Closing.{looks_given}
+pub use Rattle.tmem_redolog.proofs.Closing.{reads_only_given}
 
 -- batches set values, and make none
 pub length-values-replayed : (s : State) (batches : List (List Effect)) → length (replayed s batches).values ≡ length s.values

@@ -1,7 +1,7 @@
 // The log behind an image that holds all that the log held.
 ghost use Rattle.std.specs.Prelude.{◌≡◌, ◌⊎◌, ◌<◌, ◌≤◌, Some, ℕ, OnOk, OnErr, IfErr, IfSome, IsErrOf};
 ghost use Rattle.tmem_disk.specs.Disk.{IsSynced};
-ghost use Rattle.tmem_gate.specs.Calls.{Uses, LooksOnly};
+ghost use Rattle.tmem_gate.specs.Calls.{Uses, OnlyReads};
 ghost use Rattle.tmem_gate.specs.Gate.{StandsClosed};
 ghost use Rattle.tmem_record.specs.Layout.{slot_at, end_at};
 ghost use Rattle.tmem_redolog.specs.Closes.{Closes, ReadClosed, empty_log};
@@ -40,7 +40,7 @@ pub fn empty<D: Disk>(
 
     // With nothing to close there is no write, and no sync that could fail.
     ensures idle { ReadClosed layout.now.vars 0 layout.now.slots (D.view disk.old) →
-        LooksOnly (D.view disk.old) (D.view disk.new) }
+        OnlyReads (D.view disk.old) (D.view disk.new) }
     ensures idle_fault { (D.view disk.new).keeps_model → ReadClosed layout.now.vars 0 layout.now.slots (D.view disk.old) →
         IfErr result (λ f. f ≡ Fault.Device) }
 

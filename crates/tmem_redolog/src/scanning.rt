@@ -1,6 +1,6 @@
 // Reads the log of a device.
 ghost use Rattle.std.specs.Prelude.{◌≡◌, ◌↔◌, ◌<◌, ◌≤◌, ◌+◌, ◌*◌, ℕ, List, length, IsTrue, IfOk, OnOk, OnErr, IfErr};
-ghost use Rattle.tmem_gate.specs.Calls.{Uses, LooksOnly};
+ghost use Rattle.tmem_gate.specs.Calls.{Uses, OnlyReads};
 ghost use Rattle.tmem_gate.specs.Gate.{IsOpenOver};
 ghost use Rattle.tmem_record.specs.Layout.{slot_at, end_at};
 ghost use Rattle.tmem_record.specs.Spelling.{number_bytes};
@@ -35,7 +35,7 @@ pub fn scan<D: Disk>(
     requires sized { length state.old.values ≡ layout.vars }
     requires room { IsLogRoom layout.slots room }
     ensures uses { Uses (D.view disk.old) (D.view disk.new) result }
-    ensures looks { LooksOnly (D.view disk.old) (D.view disk.new) }
+    ensures reads_only { OnlyReads (D.view disk.old) (D.view disk.new) }
     ensures generation { IfOk result (λ log. log.generation ≡ generation) }
     ensures few { IfOk result (λ log. log.used ≤ layout.slots) }
     ensures sized { OnOk result (length state.new.values ≡ layout.vars) }

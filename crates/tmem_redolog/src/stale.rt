@@ -1,7 +1,7 @@
 // Closes what the log of an older generation left open.
 ghost use Rattle.std.specs.Prelude.{◌≡◌, ◌⊎◌, ◌↔◌, ◌<◌, ◌≤◌, ℕ, false, IsTrue, IfOk, OnOk, IfErr, MatchResult};
 ghost use Rattle.tmem_disk.specs.Disk.{IsCall, IsSynced};
-ghost use Rattle.tmem_gate.specs.Calls.{LooksOnly};
+ghost use Rattle.tmem_gate.specs.Calls.{OnlyReads};
 ghost use Rattle.tmem_gate.specs.Gate.{IsOpenAt, IsClosed, StandsClosed};
 ghost use Rattle.tmem_record.specs.Layout.{slot_at, end_at};
 ghost use Rattle.tmem_redolog.specs.Closes.{Closes, ReadClosed};
@@ -31,7 +31,7 @@ pub fn close_stale<D: Disk>(disk: &mut D, layout: Layout, log: &Log) -> Result<(
 
     // With nothing to close there is no write, and no sync that could fail.
     ensures idle { ReadClosed layout.vars log.now.used layout.slots (D.view disk.old) →
-        LooksOnly (D.view disk.old) (D.view disk.new) }
+        OnlyReads (D.view disk.old) (D.view disk.new) }
     ensures idle_fault { (D.view disk.new).keeps_model → ReadClosed layout.vars log.now.used layout.slots (D.view disk.old) →
         IfErr result (λ f. f ≡ DeviceFault.Read) }
 {
@@ -48,8 +48,8 @@ fn close_gates<D: Disk>(disk: &mut D, layout: Layout, from: u16) -> Result<bool,
     ensures call { IsCall (D.view disk.old) (D.view disk.new) result (λ f. (f ≡ DeviceFault.Read) ⊎ (f ≡ DeviceFault.Write)) }
     ensures closes { (generation : ℕ) → Closes layout.vars layout.slots generation from (D.view disk.old) (D.view disk.new) }
     ensures closed { (D.view disk.new).keeps_model → OnOk result (ReadClosed layout.vars from layout.slots (D.view disk.new)) }
-    ensures looks { IfOk result (λ any. any ≡ false → LooksOnly (D.view disk.old) (D.view disk.new)) }
-    ensures idle { ReadClosed layout.vars from layout.slots (D.view disk.old) → LooksOnly (D.view disk.old) (D.view disk.new) }
+    ensures reads_only { IfOk result (λ any. any ≡ false → OnlyReads (D.view disk.old) (D.view disk.new)) }
+    ensures idle { ReadClosed layout.vars from layout.slots (D.view disk.old) → OnlyReads (D.view disk.old) (D.view disk.new) }
     ensures idle_answer { (D.view disk.new).keeps_model → ReadClosed layout.vars from layout.slots (D.view disk.old) →
         MatchResult result (λ any. any ≡ false) (λ f. f ≡ DeviceFault.Read) }
 {

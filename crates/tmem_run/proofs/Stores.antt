@@ -41,7 +41,7 @@ module _ (set : Setting) where
   prints_on-append m h (entry.Show ∷ es) rs text x g so more later rest m' h' then = (
     so.0 ++ rest,
     prints_on-append m h es rs so.0 x g so.1 more later rest m' h' then,
-    ap (λ (t : List ℕ). t ++ rest) so.2 ∙ append_assoc (line (shown set.vars m.session (present set.program m))) so.0 rest,
+    ap (λ (t : List ℕ). t ++ rest) so.2 ∙ append_assoc (line (shown set.vars m.status (present set.program m))) so.0 rest,
   )
 
   -- the events among them are a run
@@ -56,8 +56,8 @@ module _ (set : Setting) where
   pub prints_event : (m : WorldModel) (h : ChainHistory) (it : Playable) (r : Reply) (m' : WorldModel) → Allows set m it.event r m' → PrintsOn set m h (entry.Event it ∷ []) (r ∷ []) (line (line_of r)) m' (history_after m it.event r m' h)
   prints_event m h it r m' allowed = (m', [], allowed, (refl, refl, refl), sym (append-nil (line (line_of r))))
 
-  pub prints_show : (m : WorldModel) (h : ChainHistory) → PrintsOn set m h (entry.Show ∷ []) [] (line (shown set.vars m.session (present set.program m))) m h
-  prints_show m h = ([], (refl, refl, refl), sym (append-nil (line (shown set.vars m.session (present set.program m)))))
+  pub prints_show : (m : WorldModel) (h : ChainHistory) → PrintsOn set m h (entry.Show ∷ []) [] (line (shown set.vars m.status (present set.program m))) m h
+  prints_show m h = ([], (refl, refl, refl), sym (append-nil (line (shown set.vars m.status (present set.program m)))))
 
   -- what is safe at a point between the first entries and the rest is so among all
   safe_at : (m : WorldModel) (h : ChainHistory) (first : List ScriptEntry) (answers : List Reply) (early : List ℕ) (x : WorldModel) (g : ChainHistory) → PrintsOn set m h first answers early x g
@@ -143,7 +143,7 @@ module _ {D T S : Type 0} {d t s : _} (program : Program) where
 
   -- the state is printed
   pub go_on-show : (w : World D T S d t s) → IsDevice (world_view w) → (h : ChainHistory) (m : WorldModel) → Carries program w h m
-      → EntriesGoOn program w h m (entry.Show ∷ []) (line (shown w.layout.vars m.session (present program m))) w
+      → EntriesGoOn program w h m (entry.Show ∷ []) (line (shown w.layout.vars m.status (present program m))) w
   go_on-show w device h m has =
       let prints = prints_show (setting_of w program) m h in
       record {
@@ -152,7 +152,7 @@ module _ {D T S : Type 0} {d t s : _} (program : Program) where
         reached = h;
         prints = prints;
         carries = has;
-        any_moment = record { each = λ k c left. ∣ safe_before (setting_of w program) m h (entry.Show ∷ []) [] (line (shown w.layout.vars m.session (present program m))) m h prints c ((still w device h m has).each k c left) ∣₁ };
+        any_moment = record { each = λ k c left. ∣ safe_before (setting_of w program) m h (entry.Show ∷ []) [] (line (shown w.layout.vars m.status (present program m))) m h prints c ((still w device h m has).each k c left) ∣₁ };
       }
 
   -- entries and then others

@@ -27,7 +27,7 @@ PrintsOn set m h (entry.Event it ∷ es) [] text m' h' = ⊥
 PrintsOn set m h (entry.Event it ∷ es) (r ∷ rs) text m' h' =
     (x : WorldModel) × (rest : List ℕ) × Allows set m it.event r x × PrintsOn set x (history_after m it.event r x h) es rs rest m' h' × (text ≡ line (line_of r) ++ rest)
 PrintsOn set m h (entry.Show ∷ es) rs text m' h' =
-    (rest : List ℕ) × PrintsOn set m h es rs rest m' h' × (text ≡ line (shown set.vars m.session (present set.program m)) ++ rest)
+    (rest : List ℕ) × PrintsOn set m h es rs rest m' h' × (text ≡ line (shown set.vars m.status (present set.program m)) ++ rest)
 
 -- the events among entries
 abbrev pub entry_events : List ScriptEntry → List Event

@@ -17,7 +17,7 @@ use Rattle.tmem_script.specs.declared.failure.ProgramFailure.TheVariants as fail
 use Rattle.tmem_script.specs.declared.script.ScriptEntry.{ScriptEntry}
 use Rattle.tmem_script.specs.declared.script.ScriptEntry.TheVariants as entry
 use Rattle.tmem_journal.specs.Contents.{Position, first_position}
-use Rattle.tmem_world.specs.WorldModel.{Setting, WorldModel, SessionStatus, Gone, Allows, present, opening}
+use Rattle.tmem_world.specs.WorldModel.{Setting, WorldModel, CoreStatus, Gone, Allows, present, opening}
 use Rattle.tmem_world.specs.declared.world.World.{World}
 use Rattle.tmem_world.specs.Represents.{Represents, Means, setting_of, world_view}
 pub use Rattle.tmem_lines.specs.Lines.{line}
@@ -44,8 +44,8 @@ abbrev pub state_text : ℕ → State → List ℕ
 state_text vars state =
     codes "state count=" ++ decimal state.count ++ codes " names=" ++ listed (registered state) ++ codes " values=" ++ listed (values_text vars state)
 
--- the present state, or where no session stands the refusal of all that needs one
-abbrev pub shown : ℕ → SessionStatus → State → List ℕ
+-- the present state, or where there is no core the refusal of all that needs one
+abbrev pub shown : ℕ → CoreStatus → State → List ℕ
 shown vars Gone state = text_of fault.Closed
 shown vars _ state = state_text vars state
 
@@ -53,7 +53,7 @@ shown vars _ state = state_text vars state
 -- that is allowed, `show` by the line of the present state.
 abbrev pub AnswersEntry : Setting → WorldModel → ScriptEntry → List ℕ → WorldModel → Type 0
 AnswersEntry set m (entry.Event it) text m' = (reply : Reply) × Allows set m it.event reply m' × (text ≡ line (line_of reply))
-AnswersEntry set m entry.Show text m' = (text ≡ line (shown set.vars m.session (present set.program m))) × (m' ≡ m)
+AnswersEntry set m entry.Show text m' = (text ≡ line (shown set.vars m.status (present set.program m))) × (m' ≡ m)
 
 -- The entries may be answered by this text, one after another.
 abbrev pub Prints : Setting → WorldModel → List ScriptEntry → List ℕ → WorldModel → Type 0

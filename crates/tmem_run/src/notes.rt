@@ -85,7 +85,7 @@ impl Notes {
         self.played = self.played.saturating_add(1);
     }
 
-    /// Takes that the state is to be shown next, which is refused where no session stands.
+    /// Takes that the state is to be shown next, which is refused where there is no core.
     pub(crate) fn note_shown(&mut self, is_open: bool)
         ensures shown { is_open ≡ true → self.new.refused ≡ self.old.refused }
         ensures refused { is_open ≡ false → IsNotedOf self.old.explains self.old.played (Reply.Fault Fault.Closed) self.old.refused.items self.new.refused.items }

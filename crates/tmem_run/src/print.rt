@@ -4,7 +4,7 @@ ghost use Rattle.std.specs.Io.KnownBytes.{Appends, Keeps};
 ghost use Rattle.tmem_core.specs.Program.{Program};
 ghost use Rattle.tmem_script.specs.declared.failure.ProgramFailure.TheVariants.{Output};
 ghost use Rattle.tmem_world.specs.WorldModel.{WorldModel, present};
-ghost use Rattle.tmem_world.specs.Represents.{Represents, numbers_of, HoldsSession};
+ghost use Rattle.tmem_world.specs.Represents.{Represents, numbers_of, HasCore};
 ghost use Rattle.tmem_run.specs.Printed.{line, listed, registered, values_text, shown};
 
 use std::fmt::Display;
@@ -42,7 +42,7 @@ pub fn flush_output<W: Write>(out: &mut W) -> Result<Flushed, ProgramFailure>
     }
 }
 
-/// Prints the present state, or the refusal where no session stands.
+/// Prints the present state, or the refusal where there is no core.
 pub(crate) fn print_state<D: Disk + Drop, T: Invariants + Drop, S: StoredSteps + Drop, W: Write>(
     out: &mut W,
     world: &World<D, T, S>,
@@ -50,7 +50,7 @@ pub(crate) fn print_state<D: Disk + Drop, T: Invariants + Drop, S: StoredSteps +
 ) -> Result<(), ProgramFailure>
     requires { (numbers_of world.now).vars ≡ vars }
     ensures shown { OnOk result ((program : Program) (m : WorldModel) → Represents program world.now m
-        → Appends (W.contents out.old) (W.contents out.new) (line (shown vars m.session (present program m)))) }
+        → Appends (W.contents out.old) (W.contents out.new) (line (shown vars m.status (present program m)))) }
     ensures failed { IfErr result (λ failure. failure ≡ Output) }
 {
     if !world.is_open() {
@@ -68,7 +68,7 @@ fn print_names<D: Disk + Drop, T: Invariants + Drop, S: StoredSteps + Drop, W: W
     out: &mut W,
     world: &World<D, T, S>,
 ) -> Result<(), ProgramFailure>
-    requires { HoldsSession world.now }
+    requires { HasCore world.now }
     ensures names { OnOk result ((program : Program) (m : WorldModel) → Represents program world.now m
         → Appends (W.contents out.old) (W.contents out.new) (listed (registered (present program m)))) }
     ensures failed { IfErr result (λ failure. failure ≡ Output) }
@@ -90,7 +90,7 @@ fn print_values<D: Disk + Drop, T: Invariants + Drop, S: StoredSteps + Drop, W: 
     world: &World<D, T, S>,
     vars: u16,
 ) -> Result<(), ProgramFailure>
-    requires open { HoldsSession world.now }
+    requires open { HasCore world.now }
     requires vars { (numbers_of world.now).vars ≡ vars }
     ensures values { OnOk result ((program : Program) (m : WorldModel) → Represents program world.now m
         → Appends (W.contents out.old) (W.contents out.new) (listed (values_text vars (present program m)))) }

@@ -16,13 +16,13 @@ use Rattle.tmem_tentative.specs.declared.attempt.Attempt.{Attempt}
 use Rattle.tmem_invariants.specs.TableNames.{has_name}
 use Rattle.tmem_core.specs.Program.{Program, IsProgramOf}
 use Rattle.tmem_core.proofs.Laws.{StaysWithin-taken}
-use Rattle.tmem_spine.specs.declared.view.Entry.{Entry}
-use Rattle.tmem_spine.specs.History.{count, entry, unmarked}
+use Rattle.tmem_spine.specs.declared.view.MarkedEffect.{MarkedEffect}
+use Rattle.tmem_spine.specs.History.{count, marked_effect, unmarked}
 use Rattle.tmem_spine.specs.Views.{CoreRoleView}
 use Rattle.tmem_seats.specs.Histories.{state_after_history, marked, AreSound, IsSoundState}
 use Rattle.tmem_seats.specs.Seats.{IsCoreOf}
 
-unmarked-append : (xs ys : List Entry) → unmarked (xs ++ ys) ≡ unmarked xs ++ unmarked ys
+unmarked-append : (xs ys : List MarkedEffect) → unmarked (xs ++ ys) ≡ unmarked xs ++ unmarked ys
 unmarked-append [] ys = refl
 unmarked-append (x ∷ xs) ys = ap (λ (l : List Effect). x.effect ∷ l) (unmarked-append xs ys)
 
@@ -30,17 +30,17 @@ unmarked-marked : (mark : ℕ) (es : List Effect) → unmarked (marked mark es) 
 unmarked-marked mark [] = refl
 unmarked-marked mark (e ∷ es) = ap (λ (l : List Effect). e ∷ l) (unmarked-marked mark es)
 
-pub after-append : (opening : State) (xs ys : List Entry) → state_after_history opening (xs ++ ys) ≡ fold (state_after_history opening xs) (unmarked ys)
+pub after-append : (opening : State) (xs ys : List MarkedEffect) → state_after_history opening (xs ++ ys) ≡ fold (state_after_history opening xs) (unmarked ys)
 after-append opening xs ys = ap (λ (es : List Effect). fold opening es) (unmarked-append xs ys) ∙ fold-append opening (unmarked xs) (unmarked ys)
 
-pub count-after : (opening : State) (start : ℕ) (log : List Entry) → opening.count ≡ start → (state_after_history opening log).count ≡ count start log
-count-after opening start log starts = omega (arith, count-fold opening (unmarked log), length-map log (λ (e : Entry). e.effect))
+pub count-after : (opening : State) (start : ℕ) (log : List MarkedEffect) → opening.count ≡ start → (state_after_history opening log).count ≡ count start log
+count-after opening start log starts = omega (arith, count-fold opening (unmarked log), length-map log (λ (e : MarkedEffect). e.effect))
 
-pub values-after : (opening : State) (log : List Entry) → length (state_after_history opening log).values ≡ length opening.values
+pub values-after : (opening : State) (log : List MarkedEffect) → length (state_after_history opening log).values ≡ length opening.values
 values-after opening log = length-values-fold opening (unmarked log)
 
 -- a prefix of a list with one more at its end is the whole, or one of the list before
-prefix_push : (xs ys : List Entry) (y : Entry) → IsPrefix xs (ys ++ y ∷ []) → IsPrefix xs ys ⊎ (xs ≡ ys ++ y ∷ [])
+prefix_push : (xs ys : List MarkedEffect) (y : MarkedEffect) → IsPrefix xs (ys ++ y ∷ []) → IsPrefix xs ys ⊎ (xs ≡ ys ++ y ∷ [])
 prefix_push [] ys y p = inl refl
 prefix_push (x ∷ []) [] y p = inr (sym p)
 prefix_push (x ∷ z ∷ xs) [] y p = absurd (cc p)
@@ -49,9 +49,9 @@ prefix_push (x ∷ xs) (z ∷ ys) y p =
     let tails : IsPrefix xs (ys ++ y ∷ []) = cc p in
     ⊎_elim (λ (t : IsPrefix xs ys). inl (cc (heads, t))) (λ (t : xs ≡ ys ++ y ∷ []). inr (cc (heads, t))) (prefix_push xs ys y tails)
 
-sound_more : (p : Program) (opening : State) (log : List Entry) (e : Entry) → AreSound p opening log → IsSoundState p (state_after_history opening (log ++ e ∷ [])) → AreSound p opening (log ++ e ∷ [])
+sound_more : (p : Program) (opening : State) (log : List MarkedEffect) (e : MarkedEffect) → AreSound p opening log → IsSoundState p (state_after_history opening (log ++ e ∷ [])) → AreSound p opening (log ++ e ∷ [])
 sound_more p opening log e each last xs begins =
-    ⊎_elim (λ (t : IsPrefix xs log). each xs t) (λ (t : xs ≡ log ++ e ∷ []). subst (λ (l : List Entry). IsSoundState p (state_after_history opening l)) (sym t) last) (prefix_push xs log e begins)
+    ⊎_elim (λ (t : IsPrefix xs log). each xs t) (λ (t : xs ≡ log ++ e ∷ []). subst (λ (l : List MarkedEffect). IsSoundState p (state_after_history opening l)) (sym t) last) (prefix_push xs log e begins)
 
 -- a core is sound for its table's program
 sound_core : {T : Type 0} {t : _} (p : Program) (c : Core T t) → IsProgramOf t (core_table c) p → IsSoundState p (core_state c)
@@ -61,9 +61,9 @@ sound_core p c are = record {
 }
 
 -- what was decided adds one effect or none
-sound_taken : (p : Program) (opening : State) (log : List Entry) (mark : ℕ) (decision : Result Decision Fault) (a : Attempt) → AreSound p opening log
+sound_taken : (p : Program) (opening : State) (log : List MarkedEffect) (mark : ℕ) (decision : Result Decision Fault) (a : Attempt) → AreSound p opening log
     → IsSoundState p (state_after_history opening (log ++ marked mark (taken_by decision a))) → AreSound p opening (log ++ marked mark (taken_by decision a))
-sound_taken p opening log mark (Ok (Committed number)) a each last = sound_more p opening log (entry mark a.effect) each last
+sound_taken p opening log mark (Ok (Committed number)) a each last = sound_more p opening log (marked_effect mark a.effect) each last
 sound_taken p opening log mark _ a each last = subst (AreSound p opening) (sym (append-nil log)) each
 
 drop_more : (xs ys : List Effect) (n k : ℕ) → n + k ≤ length xs → drop (n + k) (xs ++ ys) ≡ drop k (drop n xs) ++ ys
@@ -75,13 +75,13 @@ pub core_settled : {T : Type 0} {t : _} (start : ℕ) (opening : State) (p : Pro
     → v' ≡ record v { committed = v.committed ++ marked mark (taken_by decision a); trimmed = n } → IsCoreOf start opening p c' v'
 core_settled {T = T} {t = t} start opening p c c' v v' mark n decision a was view low high is =
     let es : List Effect = taken_by decision a in
-    let log : List Entry = v.committed ++ marked mark es in
+    let log : List MarkedEffect = v.committed ++ marked mark es in
     let plain : unmarked log ≡ unmarked v.committed ++ es = unmarked-append v.committed (marked mark es) ∙ ap (λ (l : List Effect). unmarked v.committed ++ l) (unmarked-marked mark es) in
     let state : core_state c' ≡ state_after_history opening log =
     ap (λ (w : core.CoreView T). w.state) view ∙ (ap (λ (s : State). fold s es) was.state ∙ sym (ap (λ (l : List Effect). fold opening l) plain ∙ fold-append opening (unmarked v.committed) es)) in
     let program : IsProgramOf t (core_table c') p = subst (λ (x : T). IsProgramOf t x p) (sym (ap (λ (w : core.CoreView T). w.table) view)) was.table in
     let late : start ≤ v.trimmed = was.late in
-    let long = length-map v.committed (λ (e : Entry). e.effect) in
+    let long = length-map v.committed (λ (e : MarkedEffect). e.effect) in
     let k : (v.trimmed - start) + (n - v.trimmed) ≡ n - start = omega arith in
     let waits : drop (n - start) (unmarked log) ≡ drop (n - v.trimmed) (drop (v.trimmed - start) (unmarked v.committed)) ++ es =
     ap (λ (l : List Effect). drop (n - start) l) plain
@@ -102,7 +102,7 @@ core_settled {T = T} {t = t} start opening p c c' v v' mark n decision a was vie
     }
 
 -- what waits behind the number that is durable now
-pub drop_again : (start n d t d' : ℕ) (durable : List Entry) (waits waited all : List Effect) → d ≡ n → n ≡ count start durable → d' ≡ t → start ≤ t → t ≤ n → waits ≡ drop (n - d') waited → waited ≡ drop (t - start) all
+pub drop_again : (start n d t d' : ℕ) (durable : List MarkedEffect) (waits waited all : List Effect) → d ≡ n → n ≡ count start durable → d' ≡ t → start ≤ t → t ≤ n → waits ≡ drop (n - d') waited → waited ≡ drop (t - start) all
     → drop (n - d) waits ≡ drop (length durable) all
 drop_again start n d t d' durable waits waited all now exact was late low here there =
     let none : n - d ≡ 0 = omega arith in

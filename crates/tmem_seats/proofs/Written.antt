@@ -13,22 +13,22 @@ use Rattle.tmem_journal.specs.declared.journal.Journal.{Journal}
 use Rattle.tmem_journal.specs.Held.{journal_device, journal_layout, journal_state, doubtful_of, MayBe}
 use Rattle.tmem_journal.specs.Journals.{Flushes}
 use Rattle.tmem_journal.specs.Contents.{ContentRepresentsEither}
-use Rattle.tmem_spine.specs.declared.view.Entry.{Entry}
+use Rattle.tmem_spine.specs.declared.view.MarkedEffect.{MarkedEffect}
 use Rattle.tmem_spine.specs.History.{unmarked}
 use Rattle.tmem_seats.specs.Flushing.{BatchGoesOn}
 use Rattle.tmem_seats.specs.Histories.{state_after_history}
 use Rattle.tmem_seats.proofs.Leaves.{either_all}
 
 -- the state after what the journal aims at
-pub aimed_state : (start : ℕ) (opening : State) (durable aimed : List Entry) (batch : List Effect) → BatchGoesOn start opening durable batch aimed → fold (state_after_history opening durable) batch ≡ state_after_history opening aimed
+pub aimed_state : (start : ℕ) (opening : State) (durable aimed : List MarkedEffect) (batch : List Effect) → BatchGoesOn start opening durable batch aimed → fold (state_after_history opening durable) batch ≡ state_after_history opening aimed
 aimed_state start opening durable aimed batch goes = sym (fold-append opening (unmarked durable) batch) ∙ ap (λ (l : List Effect). fold opening l) (sym goes.more)
 
 -- what a batch that was written leaves: the state, and what is in doubt
-pub record Leaves {D : Type 0} {d : _} (opening : State) (durable aimed : List Entry) (j : Journal D d) : Type 0 where
+pub record Leaves {D : Type 0} {d : _} (opening : State) (durable aimed : List MarkedEffect) (j : Journal D d) : Type 0 where
   pub state : journal_state j ≡ state_after_history opening durable
   pub doubt : (doubtful_of j ≡ state_after_history opening durable) ⊎ (doubtful_of j ≡ state_after_history opening aimed)
 
-module _ {D : Type 0} {d : _} (start : ℕ) (opening : State) (durable aimed : List Entry) (batch : List Effect) (goes : BatchGoesOn start opening durable batch aimed) (old new : Journal D d)
+module _ {D : Type 0} {d : _} (start : ℕ) (opening : State) (durable aimed : List MarkedEffect) (batch : List Effect) (goes : BatchGoesOn start opening durable batch aimed) (old new : Journal D d)
     (was : journal_state old ≡ state_after_history opening durable) where
   more : fold (journal_state old) batch ≡ state_after_history opening aimed
   more = ap (λ (s : State). fold s batch) was ∙ aimed_state start opening durable aimed batch goes
@@ -53,7 +53,7 @@ module _ {D : Type 0} {d : _} (start : ℕ) (opening : State) (durable aimed : L
   written_err (Err e) err doubt f = absurd f
 
 -- a crash at any moment of the call leaves one of the two states
-pub moments : {D : Type 0} {d : _} (opening : State) (durable aimed end : List Entry) (old new : Journal D d) → ∥ Leaves opening durable aimed old ∥₁ → ∥ Leaves opening end aimed new ∥₁ → (end ≡ durable) ⊎ (end ≡ aimed)
+pub moments : {D : Type 0} {d : _} (opening : State) (durable aimed end : List MarkedEffect) (old new : Journal D d) → ∥ Leaves opening durable aimed old ∥₁ → ∥ Leaves opening end aimed new ∥₁ → (end ≡ durable) ⊎ (end ≡ aimed)
     → journal_layout new ≡ journal_layout old → AtEachMoment (journal_device old) (journal_device new) (λ c. ∥ MayBe old c ⊎ MayBe new c ∥₁)
     → AtEachMoment (journal_device old) (journal_device new) (ContentRepresentsEither (journal_layout old).vars (journal_layout old).slots (state_after_history opening durable) (state_after_history opening aimed))
 moments opening durable aimed end old new was is which same each = record {
@@ -64,16 +64,16 @@ moments opening durable aimed end old new was is which same each = record {
 }
   where
     to : {s : State} → s ≡ state_after_history opening end → (s ≡ state_after_history opening durable) ⊎ (s ≡ state_after_history opening aimed)
-    to e = ⊎_elim (λ (w : end ≡ durable). inl (e ∙ ap (λ (l : List Entry). state_after_history opening l) w)) (λ (w : end ≡ aimed). inr (e ∙ ap (λ (l : List Entry). state_after_history opening l) w)) which
+    to e = ⊎_elim (λ (w : end ≡ durable). inl (e ∙ ap (λ (l : List MarkedEffect). state_after_history opening l) w)) (λ (w : end ≡ aimed). inr (e ∙ ap (λ (l : List MarkedEffect). state_after_history opening l) w)) which
 
-pub long_aimed : (durable aimed : List Entry) (batch : List Effect) → unmarked aimed ≡ unmarked durable ++ batch → length durable + length batch ≡ length aimed
+pub long_aimed : (durable aimed : List MarkedEffect) (batch : List Effect) → unmarked aimed ≡ unmarked durable ++ batch → length durable + length batch ≡ length aimed
 long_aimed durable aimed batch is =
-    omega (arith, ap length is, length-append (unmarked durable) batch, length-map durable (λ (e : Entry). e.effect), length-map aimed (λ (e : Entry). e.effect))
+    omega (arith, ap length is, length-append (unmarked durable) batch, length-map durable (λ (e : MarkedEffect). e.effect), length-map aimed (λ (e : MarkedEffect). e.effect))
 
 pub both : {x a : State} → (x ≡ a) ⊎ (x ≡ a) → x ≡ a
 both which = ⊎_elim (λ e. e) (λ e. e) which
 
-pub state_left : {D : Type 0} {d : _} {opening : State} {durable aimed : List Entry} {j : Journal D d} → ∥ Leaves opening durable aimed j ∥₁ → journal_state j ≡ state_after_history opening durable
+pub state_left : {D : Type 0} {d : _} {opening : State} {durable aimed : List MarkedEffect} {j : Journal D d} → ∥ Leaves opening durable aimed j ∥₁ → journal_state j ≡ state_after_history opening durable
 state_left left = ∥∥₁_elim left (hlevel props) (λ l. l.state)
 
 pub ok_number : (r : Result ℕ Fault) (P : ℕ → Type 0) → ((n : ℕ) → r ≡ Ok n → P n) → IfOk r P

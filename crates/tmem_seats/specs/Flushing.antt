@@ -7,7 +7,7 @@ use Rattle.tmem_effect.specs.Prefix.{IsPrefix}
 use Rattle.tmem_effect.specs.State.{State, StaysWithin}
 use Rattle.tmem_effect.specs.declared.effect.Effect.{Effect}
 use Rattle.tmem_core.specs.Taking.{IsTaken}
-use Rattle.tmem_spine.specs.declared.view.Entry.{Entry}
+use Rattle.tmem_spine.specs.declared.view.MarkedEffect.{MarkedEffect}
 use Rattle.tmem_spine.specs.History.{count, unmarked}
 use Rattle.tmem_seats.specs.Histories.{state_after_history}
 use Rattle.tmem_seats.specs.declared.failure.Failure.{Failure}
@@ -15,7 +15,7 @@ use Rattle.tmem_seats.specs.declared.failure.Failure.TheVariants as failure
 
 -- A batch goes on from what is durable to what the journal aims at, and a log takes it: each effect changes something,
 -- and the state after each of them is within the limits of counts and names.
-pub record BatchGoesOn (start : ℕ) (opening : State) (durable : List Entry) (batch : List Effect) (aimed : List Entry) : Type 0 where
+pub record BatchGoesOn (start : ℕ) (opening : State) (durable : List MarkedEffect) (batch : List Effect) (aimed : List MarkedEffect) : Type 0 where
   pub begins : IsPrefix durable aimed
   pub more : unmarked aimed ≡ unmarked durable ++ batch
   pub few : length batch ≤ 64
@@ -25,7 +25,7 @@ pub record BatchGoesOn (start : ℕ) (opening : State) (durable : List Entry) (b
 
 -- the batch is taken from the oldest of what is committed and not durable, each next one as long as any other would
 -- still fit
-pub record TakesOldest (committed durable : List Entry) (batch : List Effect) (aimed : List Entry) : Type 0 where
+pub record TakesOldest (committed durable : List MarkedEffect) (batch : List Effect) (aimed : List MarkedEffect) : Type 0 where
   pub ahead : IsPrefix aimed committed
   pub oldest : IsTaken (drop (length durable) (unmarked committed)) batch
   pub some : length durable < length committed → 1 ≤ length batch

@@ -8,16 +8,16 @@ use Rattle.tmem_effect.specs.declared.effect.Effect.{Effect}
 use Rattle.tmem_invariants.specs.Meanings.{IsSound}
 use Rattle.tmem_tree.specs.declared.step.StepAnswer.TheVariants.{Retry}
 use Rattle.tmem_core.specs.Program.{Program}
-use Rattle.tmem_spine.specs.declared.view.Entry.{Entry}
-use Rattle.tmem_spine.specs.History.{entry, unmarked}
+use Rattle.tmem_spine.specs.declared.view.MarkedEffect.{MarkedEffect}
+use Rattle.tmem_spine.specs.History.{marked_effect, unmarked}
 
 -- the state after a history
-abbrev pub state_after_history : State → List Entry → State
+abbrev pub state_after_history : State → List MarkedEffect → State
 state_after_history opening log = fold opening (unmarked log)
 
 -- effects under one mark
-abbrev pub marked : ℕ → List Effect → List Entry
-marked mark es = map (λ (e : Effect). entry mark e) es
+abbrev pub marked : ℕ → List Effect → List MarkedEffect
+marked mark es = map (λ (e : Effect). marked_effect mark e) es
 
 -- one effect at most, with its number
 abbrev pub numbered : ℕ → List Effect → List (ℕ × Effect)
@@ -28,12 +28,12 @@ abbrev pub IsSoundState : Program → State → Type 0
 IsSoundState p s = IsSound p.tests p.names s.names s.values
 
 -- the state after each beginning of a history is sound
-abbrev pub AreSound : Program → State → List Entry → Type 0
-AreSound p opening log = (xs : List Entry) → IsPrefix xs log → IsSoundState p (state_after_history opening xs)
+abbrev pub AreSound : Program → State → List MarkedEffect → Type 0
+AreSound p opening log = (xs : List MarkedEffect) → IsPrefix xs log → IsSoundState p (state_after_history opening xs)
 
 -- some list of effects makes of the opening state a sound one, in which the variable has this value
 abbrev pub IsPossibleValue : Program → State → ℕ → ℤ → Type 0
-IsPossibleValue p opening var n = ∥ ((log : List Entry) × IsSoundState p (state_after_history opening log) × (slice_get (state_after_history opening log).values var ≡ Some n)) ∥₁
+IsPossibleValue p opening var n = ∥ ((log : List MarkedEffect) × IsSoundState p (state_after_history opening log) × (slice_get (state_after_history opening log).values var ≡ Some n)) ∥₁
 
 -- the state of no store, and a program that brings nothing
 abbrev pub no_state : State
@@ -45,7 +45,7 @@ no_program = record { steps = λ index args. Retry; names = []; tests = record {
 -- Every crash leaves a content that represents the state after a history, or after one that it begins.
 pub record IsLeftOpen (opening : State) (d : DeviceView) : Type 0 where
   pub slots : ℕ
-  pub durable : List Entry
-  pub aimed : List Entry
+  pub durable : List MarkedEffect
+  pub aimed : List MarkedEffect
   pub begins : IsPrefix durable aimed
   pub leaves : LeavesOnly d (ContentRepresentsEither (length opening.values) slots (state_after_history opening durable) (state_after_history opening aimed))

@@ -4,7 +4,7 @@ use Rattle.tmem_effect.specs.State.{State, StaysWithin}
 use Rattle.tmem_core.specs.declared.core_state.Core.{Core}
 use Rattle.tmem_core.specs.Held as core
 use Rattle.tmem_core.specs.Program.{Program, IsProgramOf}
-use Rattle.tmem_spine.specs.declared.view.Entry.{Entry}
+use Rattle.tmem_spine.specs.declared.view.MarkedEffect.{MarkedEffect}
 use Rattle.tmem_spine.specs.History.{count, unmarked}
 use Rattle.tmem_spine.specs.Views.{CoreRoleView}
 use Rattle.tmem_seats.specs.Histories.{state_after_history, AreSound}
@@ -14,7 +14,7 @@ use Rattle.tmem_seats.specs.declared.failure.Failure.TheVariants as failure
 -- the core under its lock: what it committed, the number that is known durable, how many passes it gave out, whether it is
 -- shut, whether what waits for a flush goes on waiting then, and how the device failed first
 pub record CoreSeatView : Type 0 where
-  pub committed : List Entry
+  pub committed : List MarkedEffect
   pub trimmed : ℕ
   pub given : ℕ
   pub is_shut : Bool
@@ -46,7 +46,7 @@ abbrev pub HasFlushedOrEnded : ℕ → CoreSeatView → Type 0
 HasFlushedOrEnded n v = (n < v.trimmed) ⊎ IsDrained v
 
 -- all that is durable is known so, or the front has ended
-abbrev pub KnowsOrEnded : ℕ → List Entry → CoreSeatView → Type 0
+abbrev pub KnowsOrEnded : ℕ → List MarkedEffect → CoreSeatView → Type 0
 KnowsOrEnded start durable v = (v.trimmed ≡ count start durable) ⊎ IsDrained v
 
 -- fewer wait to be durable than may, which are 256, or the front is shut

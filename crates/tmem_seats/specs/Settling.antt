@@ -12,7 +12,7 @@ use Rattle.tmem_core.specs.SettleAnswer.{settle_answer, committed_by, judged}
 use Rattle.tmem_core.specs.Verdict.{verdict as verdict_of}
 use Rattle.tmem_tentative.specs.Right.{IsRight}
 use Rattle.tmem_tree.specs.declared.tx.Tx.{Tx}
-use Rattle.tmem_spine.specs.declared.view.Entry.{Entry}
+use Rattle.tmem_spine.specs.declared.view.MarkedEffect.{MarkedEffect}
 use Rattle.tmem_spine.specs.History.{count}
 use Rattle.tmem_spine.specs.Views.{PassRoleView}
 use Rattle.tmem_seats.specs.Histories.{state_after_history, marked, numbered, IsSoundState}
@@ -22,7 +22,7 @@ use Rattle.tmem_seats.specs.Histories.{state_after_history, marked, numbered, Is
 -- there. The history gains what is committed, once, under the mark of the pass, which then knows it whole and has what
 -- is committed as its own. The state after that is sound.
 pub record SettlesPass (start : ℕ) (opening : State) (program : Program) (attempt : Attempt) (old : PassRoleView) (answer : Result Settled Fault) (new : PassRoleView) : Type 0 where
-  pub before : List Entry
+  pub before : List MarkedEffect
   pub durable : ℕ
   pub is_shut : Bool
   pub begins : IsPrefix old.known before

@@ -33,8 +33,8 @@ use tmem_tentative::{Attempt, Probe, Reads};
 pub struct CoreSeat<N: StoreNaming, T: Invariants> {
     core: Core<T>,
     side: CoreSide<N>,
-    // how often whoever waits has looked at what it waits for
-    looks: u64,
+    // how often whoever waits has tried what it waits for
+    tries: u64,
     // what waits for a flush goes on waiting, though it is shut
     is_draining: bool,
     failure: Failure,
@@ -49,7 +49,7 @@ impl<N: StoreNaming, T: Invariants + Drop> Drop for CoreSeat<N, T> {
         let CoreSeat {
             core: _core,
             side: _side,
-            looks: _looks,
+            tries: _tries,
             is_draining: _is_draining,
             failure: _failure,
             sleepers: _sleepers,
@@ -78,11 +78,11 @@ impl<N: StoreNaming, T: Invariants + Drop> CoreSeat<N, T> {
         requires program { IsProgramOf T.Invariants (core_table core) N.program }
         ensures { (result.committed ≡ []) × (result.trimmed ≡ N.name.start) × (result.given ≡ 0) × (result.is_shut ≡ is_shut_of core) × (result.is_draining ≡ false) × (result.failure ≡ Failure.None) }
     {
-        let (looks, is_draining, failure) = (0, false, Failure::None);
+        let (tries, is_draining, failure) = (0, false, Failure::None);
         CoreSeat {
             core,
             side,
-            looks,
+            tries,
             is_draining,
             failure,
             sleepers: Sleepers::new(),
@@ -257,7 +257,7 @@ impl<N: StoreNaming, T: Invariants + Drop> CoreSeat<N, T> {
         ensures more { IsTrue result ↔ HasMoreOrShut N.name.start at self.new }
         ensures same { self.new ≡ self.old }
     {
-        self.looks = self.looks.wrapping_add(1);
+        self.tries = self.tries.wrapping_add(1);
         at < self.count() || self.is_shut()
     }
 
@@ -267,7 +267,7 @@ impl<N: StoreNaming, T: Invariants + Drop> CoreSeat<N, T> {
         ensures more { IsTrue result ↔ HasFlushedOrEnded number self.new }
         ensures same { self.new ≡ self.old }
     {
-        self.looks = self.looks.wrapping_add(1);
+        self.tries = self.tries.wrapping_add(1);
         number < self.durable() || self.is_shut() && !self.is_draining
     }
 
@@ -276,7 +276,7 @@ impl<N: StoreNaming, T: Invariants + Drop> CoreSeat<N, T> {
         ensures room { IsTrue result ↔ HasRoomOrShut N.name.start self.new }
         ensures same { self.new ≡ self.old }
     {
-        self.looks = self.looks.wrapping_add(1);
+        self.tries = self.tries.wrapping_add(1);
         self.count().saturating_sub(self.durable()) < MAX_WAITING as u64 || self.is_shut()
     }
 
@@ -285,7 +285,7 @@ impl<N: StoreNaming, T: Invariants + Drop> CoreSeat<N, T> {
         ensures more { IsTrue result ↔ HasWorkOrShut N.name.start self.new }
         ensures same { self.new ≡ self.old }
     {
-        self.looks = self.looks.wrapping_add(1);
+        self.tries = self.tries.wrapping_add(1);
         self.has_waiting() || self.is_shut()
     }
 
@@ -319,9 +319,9 @@ impl<N: StoreNaming, T: Invariants + Drop> CoreSeat<N, T> {
         is_asleep
     }
 
-    /// How often whoever waits has looked at what it waits for.
-    pub fn looks(&self) -> u64 {
-        self.looks
+    /// How often whoever waits has tried what it waits for.
+    pub fn tries(&self) -> u64 {
+        self.tries
     }
 
     /// Later attempts are refused as `Closed`, and no flush is awaited any more.

@@ -7,7 +7,7 @@ ghost use Rattle.tmem_gate.specs.Calls.{Uses, WritesWithin};
 ghost use Rattle.tmem_record.specs.Layout.{slot_at, image_at, image_size};
 ghost use Rattle.tmem_journal.specs.Held.{journal_device, journal_layout, journal_state, doubtful_of, journal_position, is_closed_of};
 ghost use Rattle.tmem_journal.specs.Contents.{ContentRepresentsEither, ContentRepresentsState};
-ghost use Rattle.tmem_spine.specs.History.{count, entry, longer, Has, HasAt};
+ghost use Rattle.tmem_spine.specs.History.{count, marked_effect, longer, Has, HasAt};
 ghost use Rattle.tmem_spine.specs.Views.{new_journal};
 ghost use Rattle.tmem_journal.specs.Journals.{Flushes, Checkpoints, HasSlot};
 ghost use Rattle.tmem_seats.specs.Flushing.{BatchGoesOn, TakesOldest, IsFlushRefusal, IsCheckpointRefusal, IsFlusherRefusal};
@@ -125,7 +125,7 @@ impl<D: Disk, N: StoreNaming> JournalSeat<D, N> {
         ensures most { result ≤ count N.name.start pass.new.known }
         ensures pass { pass.new ≡ record pass.old { known = longer pass.old.known (side_of self.old).durable } }
         ensures begins { IsPrefix pass.old.seen (side_of self.old).durable × IsPrefix pass.old.known pass.new.known }
-        ensures stands { (effect : EffectOf) → Has pass.old.own number effect → HasAt N.name.start (side_of self.old).durable number (entry pass.old.mark effect) }
+        ensures stands { (effect : EffectOf) → Has pass.old.own number effect → HasAt N.name.start (side_of self.old).durable number (marked_effect pass.old.mark effect) }
     {
         spine.meet_journal(&mut self.side, pass);
         self.count()

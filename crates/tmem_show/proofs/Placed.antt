@@ -5,8 +5,8 @@ use Rattle.tmem_parts.specs.declared.wrong.FormatFlaw.TheVariants.{Ends}
 use Rattle.tmem_parts.specs.declared.wrong.WrongByte.{WrongByte}
 use Rattle.tmem_record.specs.Layout.{end_at}
 use Rattle.tmem_show.specs.Refusals.{IsFoundWrong, IsPlacedBehind, IsPlacedIn}
-use Rattle.tmem_show.specs.declared.look.OpeningResult.{OpeningResult}
-use Rattle.tmem_show.specs.declared.look.OpeningResult.TheVariants.{Refused}
+use Rattle.tmem_show.specs.declared.shown.OpeningResult.{OpeningResult}
+use Rattle.tmem_show.specs.declared.shown.OpeningResult.TheVariants.{Refused}
 use Rattle.tmem_show.specs.declared.refusal.Place.{Place}
 use Rattle.tmem_show.specs.declared.refusal.Place.TheVariants.{In, Before}
 use Rattle.tmem_show.specs.declared.refusal.Refusal.{Refusal}

@@ -7,8 +7,8 @@ use Rattle.tmem_parts.specs.declared.wrong.FormatFlaw.TheVariants.{Ends}
 use Rattle.tmem_parts.specs.declared.wrong.WrongByte.{WrongByte}
 use Rattle.tmem_record.specs.Layout.{end_at, image_at, slot_at}
 use Rattle.tmem_state.specs.declared.version.Version.{Version}
-use Rattle.tmem_show.specs.declared.look.OpeningResult.{OpeningResult}
-use Rattle.tmem_show.specs.declared.look.OpeningResult.TheVariants as opening
+use Rattle.tmem_show.specs.declared.shown.OpeningResult.{OpeningResult}
+use Rattle.tmem_show.specs.declared.shown.OpeningResult.TheVariants as opening
 use Rattle.tmem_show.specs.declared.refusal.Part.{Part}
 use Rattle.tmem_show.specs.declared.refusal.Part.TheVariants as part
 use Rattle.tmem_show.specs.declared.refusal.Place.{Place}

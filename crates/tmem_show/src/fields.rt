@@ -9,8 +9,8 @@ use tmem_gate::GATE_OPEN;
 use tmem_parts::FormatFlaw;
 use tmem_state::{MAX_NAMES, MAX_RECORDS, Version};
 
-/// Where in an image copy the mark of the version stands: in the last byte of the header.
-pub(crate) const MARK_AT: usize = 2047;
+/// Where in an image copy the version byte stands: in the last byte of the header.
+pub(crate) const VERSION_BYTE_IN_COPY: usize = 2047;
 
 /// Some bytes that belong together, and what they are.
 #[derive(Clone, Copy)]
@@ -35,7 +35,7 @@ pub(crate) enum Is {
     Count(u64),
     Names(u8),
     Name(Name),
-    Mark(u8),
+    VersionByte(u8),
     Value(u16, i64),
     ZeroValues(u16, u16),
     First(u64),
@@ -66,7 +66,7 @@ impl fmt::Display for Is {
             | Is::Generation(_)
             | Is::Count(_)
             | Is::Names(_)
-            | Is::Mark(_)
+            | Is::VersionByte(_)
             | Is::First(_)
             | Is::Records(_)
             | Is::Writes(_)
@@ -86,7 +86,7 @@ fn put_number<W: fmt::Write>(f: &mut fmt::Formatter<W>, is: &Is) -> fmt::Result 
         Is::Generation(number) => ("generation ", number, ""),
         Is::Count(number) => ("count ", number, ""),
         Is::Names(number) => ("", number as u64, " names"),
-        Is::Mark(number) => ("mark ", number as u64, ""),
+        Is::VersionByte(number) => ("version byte ", number as u64, ""),
         Is::First(number) => ("first record ", number, ""),
         Is::Records(number) => ("", number as u64, " records"),
         Is::Writes(number) => ("", number as u64, " writes"),
@@ -153,10 +153,10 @@ fn walk_header(walk: &mut Walk, at: usize) {
     let count = walk.number();
     walk.pass(8, Is::Count(count));
     walk_registered(walk);
-    walk.zeros_to(at.saturating_add(MARK_AT));
-    let mark = walk.byte();
-    walk.check(Version::of_mark(mark).is_some(), FormatFlaw::Mark);
-    walk.pass(1, Is::Mark(mark));
+    walk.zeros_to(at.saturating_add(VERSION_BYTE_IN_COPY));
+    let byte = walk.byte();
+    walk.check(Version::of_byte(byte).is_some(), FormatFlaw::VersionByte);
+    walk.pass(1, Is::VersionByte(byte));
 }
 
 // The registered names, behind how many there are.

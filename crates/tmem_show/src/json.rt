@@ -3,8 +3,8 @@ ghost use Rattle.std.specs.Prelude.{◌≤◌, ◌<◌};
 
 use crate::error::ShowError;
 use crate::fields::Field;
-use crate::look::{OpeningResult, PartRole, ShownStore, Walked, opening_without_block, too_short};
 use crate::printer::Printer;
+use crate::shown::{OpeningResult, PartRole, ShownStore, Walked, opening_without_block, too_short};
 use crate::source::Source;
 use std::alloc::Global;
 use std::io::Write;
@@ -76,7 +76,7 @@ fn put_store<W: Write>(
         return Ok(());
     }
     match &ShownStore::new(alloc, &source.bytes, layout) {
-        Ok(look) => put_parts(alloc, look, version, hex, out),
+        Ok(shown) => put_parts(alloc, shown, version, hex, out),
         Err(fault) => Err(*fault),
     }
 }
@@ -84,17 +84,17 @@ fn put_store<W: Write>(
 // The rest of block 0 and the parts behind it, of a store that was formatted with this version, and what an opening finds.
 fn put_parts<W: Write>(
     alloc: Global,
-    look: &ShownStore,
+    shown: &ShownStore,
     version: Version,
     hex: bool,
     out: &mut Printer<W>,
 ) -> Result<(), Fault> {
     if hex {
-        put_fields(look, &look.walk_block()?, out);
+        put_fields(shown, &shown.walk_block()?, out);
     }
-    put_images(look, hex, out)?;
-    put_slots(alloc, look, hex, out)?;
-    let opening = look.opening(version)?;
+    put_images(shown, hex, out)?;
+    put_slots(alloc, shown, hex, out)?;
+    let opening = shown.opening(version)?;
     put_opening(out, &opening);
     Ok(())
 }
@@ -108,10 +108,10 @@ fn put_block<W: Write>(out: &mut Printer<W>, version: Version, layout: Layout) {
 }
 
 // The end of block 0, and the image copies.
-fn put_images<W: Write>(look: &ShownStore, hex: bool, out: &mut Printer<W>) -> Result<(), Fault> {
+fn put_images<W: Write>(shown: &ShownStore, hex: bool, out: &mut Printer<W>) -> Result<(), Fault> {
     out.put("},\"images\":[");
-    put_image(look, 0, hex, out)?;
-    put_image(look, 1, hex, out)?;
+    put_image(shown, 0, hex, out)?;
+    put_image(shown, 1, hex, out)?;
     out.put("]");
     Ok(())
 }
@@ -119,14 +119,14 @@ fn put_images<W: Write>(look: &ShownStore, hex: bool, out: &mut Printer<W>) -> R
 // The log slots.
 fn put_slots<W: Write>(
     alloc: Global,
-    look: &ShownStore,
+    shown: &ShownStore,
     hex: bool,
     out: &mut Printer<W>,
 ) -> Result<(), Fault> {
     out.put(",\"slots\":[");
     let mut records = Records::new(alloc)?;
-    for k in 0..look.layout.slots {
-        put_slot(look, k, &mut records, hex, out)?;
+    for k in 0..shown.layout.slots {
+        put_slot(shown, k, &mut records, hex, out)?;
     }
     out.put("]");
     Ok(())
@@ -143,31 +143,31 @@ fn put_opening<W: Write>(out: &mut Printer<W>, opening: &OpeningResult) {
 
 // An image copy, behind a comma unless it is the first.
 fn put_image<W: Write>(
-    look: &ShownStore,
+    shown: &ShownStore,
     copy: u8,
     hex: bool,
     out: &mut Printer<W>,
 ) -> Result<(), Fault>
     requires { copy ≤ 1 }
 {
-    let walked = look.walk_image(copy)?;
+    let walked = shown.walk_image(copy)?;
     begin(out, copy > 0, walked.at);
-    put_copy(look, copy, &walked, out)?;
-    end(look, &walked, hex, out);
+    put_copy(shown, copy, &walked, out)?;
+    end(shown, &walked, hex, out);
     Ok(())
 }
 
 // Whether it is open, and what it holds.
 fn put_copy<W: Write>(
-    look: &ShownStore,
+    shown: &ShownStore,
     copy: u8,
     walked: &Walked,
     out: &mut Printer<W>,
 ) -> Result<(), Fault>
     requires { copy ≤ 1 }
 {
-    let role = look.role_of_image(copy);
-    match look.image(copy)? {
+    let role = shown.role_of_image(copy);
+    match shown.image(copy)? {
         Image::Closed => out.put("false"),
         Image::Damaged => put_damage(out, role, walked),
         Image::Open(image) => put_head(out, role, &image),
@@ -190,19 +190,19 @@ fn put_reached<W: Write>(out: &mut Printer<W>, before: &str, state: &State) {
 
 // A log slot, behind a comma unless it is the first.
 fn put_slot<W: Write>(
-    look: &ShownStore,
+    shown: &ShownStore,
     k: u16,
     records: &mut Records,
     hex: bool,
     out: &mut Printer<W>,
 ) -> Result<(), Fault>
-    requires { k < look.now.layout.slots }
+    requires { k < shown.now.layout.slots }
 {
-    let walked = look.walk_slot(k)?;
+    let walked = shown.walk_slot(k)?;
     begin(out, k > 0, walked.at);
-    let slot = look.slot(k, records);
-    put_content(out, look.role_of_slot(k), slot, records, &walked);
-    end(look, &walked, hex, out);
+    let slot = shown.slot(k, records);
+    put_content(out, shown.role_of_slot(k), slot, records, &walked);
+    end(shown, &walked, hex, out);
     Ok(())
 }
 
@@ -223,9 +223,9 @@ fn put_content<W: Write>(
 }
 
 // The end of a part, with its bytes where they are asked for.
-fn end<W: Write>(look: &ShownStore, walked: &Walked, hex: bool, out: &mut Printer<W>) {
+fn end<W: Write>(shown: &ShownStore, walked: &Walked, hex: bool, out: &mut Printer<W>) {
     if hex {
-        put_fields(look, walked, out);
+        put_fields(shown, walked, out);
     }
     out.put("}");
 }
@@ -330,21 +330,21 @@ fn number_and_word(fault: Fault) -> (u64, &'static str) {
 }
 
 // The bytes of a part, field by field.
-fn put_fields<W: Write>(look: &ShownStore, walked: &Walked, out: &mut Printer<W>) {
+fn put_fields<W: Write>(shown: &ShownStore, walked: &Walked, out: &mut Printer<W>) {
     out.put(",\"fields\":[");
     let mut before = "[";
     for field in &walked.fields {
         out.put_number(before, field.at);
-        put_field(look, field, out);
+        put_field(shown, field, out);
         before = ",[";
     }
     out.put("]");
 }
 
 // The bytes of a field, and what they are.
-fn put_field<W: Write>(look: &ShownStore, field: &Field, out: &mut Printer<W>) {
+fn put_field<W: Write>(shown: &ShownStore, field: &Field, out: &mut Printer<W>) {
     out.put(",\"");
-    for byte in look.bytes_of(field) {
+    for byte in shown.bytes_of(field) {
         out.put_byte("", *byte);
     }
     out.put_item("\",\"", &field.is);

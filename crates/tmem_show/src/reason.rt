@@ -2,7 +2,7 @@
 ghost use Rattle.std.specs.Prelude.{◌≤◌, ◌<◌, length};
 ghost use Rattle.tmem_record.specs.Layout.{end_at};
 
-use crate::fields::{MARK_AT, walk_image, walk_slot};
+use crate::fields::{VERSION_BYTE_IN_COPY, walk_image, walk_slot};
 use crate::log::{choose, not_stale, used};
 use crate::walk::{Stop, Walk};
 use std::alloc::Global;
@@ -45,9 +45,9 @@ fn first_wrong(
     let mut walk = Walk::new(alloc, bytes, at, end);
     walk_image(&mut walk, at, layout.vars);
     walk.outcome()?;
-    let version = Version::of_mark(bytes[at + MARK_AT]).unwrap_or(Version::Two);
+    let version = Version::of_byte(bytes[at + VERSION_BYTE_IN_COPY]).unwrap_or(Version::Two);
     if version.number() < formatted.number() {
-        return Ok(amiss(at + MARK_AT, FormatFlaw::Earlier));
+        return Ok(amiss(at + VERSION_BYTE_IN_COPY, FormatFlaw::Earlier));
     }
     let used = used(bytes, layout, it.generation);
     walk_log(

@@ -3,7 +3,7 @@ ghost use Rattle.std.specs.Prelude.{◌≡◌, ◌⊎◌, ℕ, List, IfErr, IfOk
 ghost use Rattle.tmem_parts.specs.Block.{IsBlockWrong};
 ghost use Rattle.tmem_show.specs.Refusals.{IsInPart, IsOpening, IsPlaced, IsPlacedBefore, IsPlacedBehind, IsPlacedIn, TellsOf, TellsOpening, is_of_no_store};
 
-use crate::look::{OpeningResult, ShownStore, least_layout, opening_without_block, too_short};
+use crate::shown::{OpeningResult, ShownStore, least_layout, opening_without_block, too_short};
 use crate::source::Source;
 use std::alloc::Global;
 use std::fmt;
@@ -87,8 +87,8 @@ fn refusal_behind(alloc: Global, source: &Source, block: Block) -> Result<Option
         return Ok(refusal_in(layout, &too_short(source)));
     }
     match &ShownStore::new(alloc, &source.bytes, layout) {
-        Ok(look) => {
-            let opening = look.opening(version)?;
+        Ok(shown) => {
+            let opening = shown.opening(version)?;
             Ok(refusal_in(layout, &opening))
         }
         Err(fault) => Err(*fault),

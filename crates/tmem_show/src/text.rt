@@ -3,8 +3,8 @@ ghost use Rattle.std.specs.Prelude.{◌≤◌, ◌<◌};
 
 use crate::error::ShowError;
 use crate::fields::Field;
-use crate::look::{OpeningResult, PartRole, ShownStore, Walked, opening_without_block, too_short};
 use crate::printer::Printer;
+use crate::shown::{OpeningResult, PartRole, ShownStore, Walked, opening_without_block, too_short};
 use crate::source::Source;
 use std::alloc::Global;
 use std::io::Write;
@@ -66,7 +66,7 @@ fn show_store<W: Write>(
         return Ok(());
     }
     match &ShownStore::new(alloc, &source.bytes, layout) {
-        Ok(look) => show_parts(alloc, look, version, hex, out),
+        Ok(shown) => show_parts(alloc, shown, version, hex, out),
         Err(fault) => Err(*fault),
     }
 }
@@ -74,18 +74,18 @@ fn show_store<W: Write>(
 // The parts behind block 0, of a store that was formatted with this version, and what an opening finds.
 fn show_parts<W: Write>(
     alloc: Global,
-    look: &ShownStore,
+    shown: &ShownStore,
     version: Version,
     hex: bool,
     out: &mut Printer<W>,
 ) -> Result<(), Fault> {
     if hex {
-        show_fields(look, &look.walk_block()?, out);
+        show_fields(shown, &shown.walk_block()?, out);
     }
-    show_image(look, 0, hex, out)?;
-    show_image(look, 1, hex, out)?;
-    show_slots(alloc, look, hex, out)?;
-    let opening = look.opening(version)?;
+    show_image(shown, 0, hex, out)?;
+    show_image(shown, 1, hex, out)?;
+    show_slots(alloc, shown, hex, out)?;
+    let opening = shown.opening(version)?;
     show_opening(out, &opening);
     Ok(())
 }
@@ -115,17 +115,17 @@ fn show_refusal<W: Write>(out: &mut Printer<W>, fault: &Fault, wrong: &WrongByte
 
 // An image copy.
 fn show_image<W: Write>(
-    look: &ShownStore,
+    shown: &ShownStore,
     copy: u8,
     hex: bool,
     out: &mut Printer<W>,
 ) -> Result<(), Fault>
     requires { copy ≤ 1 }
 {
-    let walked = look.walk_image(copy)?;
+    let walked = shown.walk_image(copy)?;
     begin(out, "image ", copy as u64, walked.at);
-    show_copy(look, copy, &walked, out)?;
-    show_hex(look, &walked, hex, out);
+    show_copy(shown, copy, &walked, out)?;
+    show_hex(shown, &walked, hex, out);
     Ok(())
 }
 
@@ -138,19 +138,19 @@ fn begin<W: Write>(out: &mut Printer<W>, kind: &str, number: u64, at: u64) {
 
 // What it holds.
 fn show_copy<W: Write>(
-    look: &ShownStore,
+    shown: &ShownStore,
     copy: u8,
     walked: &Walked,
     out: &mut Printer<W>,
 ) -> Result<(), Fault>
     requires { copy ≤ 1 }
 {
-    let role = match look.role_of_image(copy) {
+    let role = match shown.role_of_image(copy) {
         PartRole::Counts => "chosen",
         PartRole::Stale => "stale",
         PartRole::Amiss => "not chosen",
     };
-    match look.image(copy)? {
+    match shown.image(copy)? {
         Image::Closed => out.put("closed\n"),
         Image::Damaged => show_wrong(out, role, walked),
         Image::Open(image) => show_open_image(out, role, &image),
@@ -177,32 +177,32 @@ fn show_open<W: Write>(out: &mut Printer<W>, role: &str) {
 // The log slots.
 fn show_slots<W: Write>(
     alloc: Global,
-    look: &ShownStore,
+    shown: &ShownStore,
     hex: bool,
     out: &mut Printer<W>,
 ) -> Result<(), Fault> {
     let mut records = Records::new(alloc)?;
-    for k in 0..look.layout.slots {
-        show_slot(look, k, &mut records, hex, out)?;
+    for k in 0..shown.layout.slots {
+        show_slot(shown, k, &mut records, hex, out)?;
     }
     Ok(())
 }
 
 // A log slot.
 fn show_slot<W: Write>(
-    look: &ShownStore,
+    shown: &ShownStore,
     k: u16,
     records: &mut Records,
     hex: bool,
     out: &mut Printer<W>,
 ) -> Result<(), Fault>
-    requires { k < look.now.layout.slots }
+    requires { k < shown.now.layout.slots }
 {
-    let walked = look.walk_slot(k)?;
+    let walked = shown.walk_slot(k)?;
     begin(out, "slot ", k as u64, walked.at);
-    let slot = look.slot(k, records);
-    show_content(out, look.role_of_slot(k), slot, records, &walked);
-    show_hex(look, &walked, hex, out);
+    let slot = shown.slot(k, records);
+    show_content(out, shown.role_of_slot(k), slot, records, &walked);
+    show_hex(shown, &walked, hex, out);
     Ok(())
 }
 
@@ -278,16 +278,16 @@ fn show_state<W: Write>(out: &mut Printer<W>, state: &State) {
 }
 
 // The bytes of a part, where they are asked for.
-fn show_hex<W: Write>(look: &ShownStore, walked: &Walked, hex: bool, out: &mut Printer<W>) {
+fn show_hex<W: Write>(shown: &ShownStore, walked: &Walked, hex: bool, out: &mut Printer<W>) {
     if hex {
-        show_fields(look, walked, out);
+        show_fields(shown, walked, out);
     }
 }
 
 // The bytes of a part, field by field.
-fn show_fields<W: Write>(look: &ShownStore, walked: &Walked, out: &mut Printer<W>) {
+fn show_fields<W: Write>(shown: &ShownStore, walked: &Walked, out: &mut Printer<W>) {
     for field in &walked.fields {
-        show_field(look, field, out);
+        show_field(shown, field, out);
     }
     if let Some(wrong) = walked.wrong {
         out.put_item("  ", &wrong);
@@ -295,10 +295,10 @@ fn show_fields<W: Write>(look: &ShownStore, walked: &Walked, out: &mut Printer<W
     }
 }
 
-fn show_field<W: Write>(look: &ShownStore, field: &Field, out: &mut Printer<W>) {
+fn show_field<W: Write>(shown: &ShownStore, field: &Field, out: &mut Printer<W>) {
     out.put_number("  ", field.at);
     out.put(":");
-    show_bytes(look.bytes_of(field), out);
+    show_bytes(shown.bytes_of(field), out);
     out.put_item("  ", &field.is);
     out.put("\n");
 }

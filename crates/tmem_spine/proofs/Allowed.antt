@@ -5,7 +5,7 @@ use mathlib.Core.Option.{none}
 use Rattle.atomic_table.specs.Table.{step, keeps, Allows}
 use Rattle.tmem_effect.specs.Prefix.{IsPrefix}
 use Rattle.tmem_effect.proofs.Laws.{IsPrefix-self, IsPrefix-length, IsPrefix-trans}
-use Rattle.tmem_spine.specs.declared.view.Entry.{Entry}
+use Rattle.tmem_spine.specs.declared.view.MarkedEffect.{MarkedEffect}
 use Rattle.tmem_spine.specs.declared.view.Role.{Role}
 use Rattle.tmem_spine.specs.declared.view.Role.TheVariants.{Core, Journal, Pass, Spent}
 use Rattle.tmem_spine.specs.declared.view.View.{View}
@@ -40,7 +40,7 @@ second_word : (start : ℕ) (h : History) (words : List ℕ) → IsHistory start
 second_word start h words is = ap (λ (ws : List ℕ). slice_index ws 1) is.counts
 
 -- what the others know fits once one effect more is committed
-committed_else : (start : ℕ) (h : History) (e : Entry) (j : ℕ) (u : View) → h.core ≢ j → Fits start h j u → Fits start (record h { committed = h.committed ++ e ∷ [] }) j u
+committed_else : (start : ℕ) (h : History) (e : MarkedEffect) (j : ℕ) (u : View) → h.core ≢ j → Fits start h j u → Fits start (record h { committed = h.committed ++ e ∷ [] }) j u
 committed_else start h e j u other f = record {
   based = f.based;
   known = prefix_more u.known h.committed (e ∷ []) f.known;
@@ -52,7 +52,7 @@ committed_else start h e j u other f = record {
   is_pass = f.is_pass;
 }
 
-pub accepts : (start slots id : ℕ) (v : View) (carried : List (ℕ × ℕ)) (e : Entry) → v.role ≡ Core → count v.start v.committed + 1 < 2 ^ 64
+pub accepts : (start slots id : ℕ) (v : View) (carried : List (ℕ × ℕ)) (e : MarkedEffect) → v.role ≡ Core → count v.start v.committed + 1 < 2 ^ 64
     → Allows (KeepsHistory start) slots id (v, carried) 0 (λ n. (n + 1) % 2 ^ 64) (told (Accepts e) (step slots 0 1 0 none) (v, carried))
 accepts start slots id v carried e role room s kept len at small =
     let h = kept.history in
@@ -78,13 +78,13 @@ accepts start slots id v carried e role room s kept len at small =
             few = is.few;
           })
           (λ j u ne fu. committed_else start h e j u (λ eq. ne (sym eq ∙ sym mine.0)) fu)
-          (fits_as Core role f.based (prefix_more v.known h.committed (e ∷ []) f.known) f.seen f.trimmed (mine.0, ap (λ (xs : List Entry). xs ++ e ∷ []) mine.1, mine.2))
+          (fits_as Core role f.based (prefix_more v.known h.committed (e ∷ []) f.known) f.seen f.trimmed (mine.0, ap (λ (xs : List MarkedEffect). xs ++ e ∷ []) mine.1, mine.2))
           (λ r. (r, refl)),
       (refl, (refl, word ∙ omega (arith, based))),
     )
 
 -- what the others know fits whatever the journal aims at
-aimed_else : (start : ℕ) (h : History) (xs : List Entry) (j : ℕ) (u : View) → h.journal ≢ j → Fits start h j u → Fits start (record h { aimed = xs }) j u
+aimed_else : (start : ℕ) (h : History) (xs : List MarkedEffect) (j : ℕ) (u : View) → h.journal ≢ j → Fits start h j u → Fits start (record h { aimed = xs }) j u
 aimed_else start h xs j u other f = record {
   based = f.based;
   known = f.known;
@@ -103,7 +103,7 @@ aims start slots id v carried upto role low high s kept len at small =
     let is = kept.is_history in
     let f = kept.each id v at in
     let mine = f.is_journal role in
-    let xs : List Entry = take (upto - v.start) v.known in
+    let xs : List MarkedEffect = take (upto - v.start) v.known in
     let h' : History = record h { aimed = xs } in
     let long : length xs ≡ upto - v.start = length-take-le (upto - v.start) v.known (omega arith) in
     let begins : IsPrefix xs v.known = ap (λ (k : ℕ). take k v.known) long in
@@ -118,7 +118,7 @@ aims start slots id v carried upto role low high s kept len at small =
           (λ j u ne fu. aimed_else start h xs j u (λ eq. ne (sym eq ∙ sym mine.0)) fu)
           (fits_as Journal role f.based f.known f.seen f.trimmed (mine.0, mine.1, refl, mine.3))
           (λ r. (r, refl)),
-      (refl, (refl, subst (λ (ys : List Entry). IsPrefix ys xs) (sym mine.3) durable)),
+      (refl, (refl, subst (λ (ys : List MarkedEffect). IsPrefix ys xs) (sym mine.3) durable)),
     )
 
 pub stays : (start slots id : ℕ) (v : View) (carried : List (ℕ × ℕ)) → v.role ≡ Journal
@@ -136,7 +136,7 @@ stays start slots id v carried role s kept len at small =
       keeps,
       tt,
       kept_step start s kept h (set s.words 0 (slice_index s.words 0)) s.homes id v v at (loaded start h s.words 0 (omega arith) is) (λ j u ne fu. fu) f (λ r. (r, refl)),
-      (refl, (refl, subst (λ (xs : List Entry). IsPrefix v.seen xs) (sym mine.3) f.seen, omega arith, rw mine.3 l.0, rw mine.3 l.1)),
+      (refl, (refl, subst (λ (xs : List MarkedEffect). IsPrefix v.seen xs) (sym mine.3) f.seen, omega arith, rw mine.3 l.0, rw mine.3 l.1)),
     )
 
 -- what the others know fits once what the journal aims at is durable
@@ -216,8 +216,8 @@ trims start slots id v carried role s kept len at small =
           omega arith,
           omega arith,
           omega arith,
-          subst (λ (xs : List Entry). IsPrefix v.known xs) (sym mine.1) f.known,
-          subst (λ (xs : List Entry). IsPrefix v.seen xs) (sym mine.1) (IsPrefix-trans v.seen h.durable h.committed f.seen within),
+          subst (λ (xs : List MarkedEffect). IsPrefix v.known xs) (sym mine.1) f.known,
+          subst (λ (xs : List MarkedEffect). IsPrefix v.seen xs) (sym mine.1) (IsPrefix-trans v.seen h.durable h.committed f.seen within),
         ),
       ),
     )

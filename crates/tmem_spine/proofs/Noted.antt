@@ -7,10 +7,10 @@ use Rattle.atomic_table.proofs.Lists.{at_set}
 use Rattle.tmem_effect.specs.Prefix.{IsPrefix}
 use Rattle.tmem_effect.specs.declared.effect.Effect.{Effect}
 use Rattle.tmem_effect.proofs.Laws.{IsPrefix-self}
-use Rattle.tmem_spine.specs.declared.view.Entry.{Entry}
+use Rattle.tmem_spine.specs.declared.view.MarkedEffect.{MarkedEffect}
 use Rattle.tmem_spine.specs.declared.view.Role.TheVariants.{Start, Core, Journal, Pass, Note}
 use Rattle.tmem_spine.specs.declared.view.View.{View}
-use Rattle.tmem_spine.specs.History.{count, entry, longer, HasAt}
+use Rattle.tmem_spine.specs.History.{count, marked_effect, longer, HasAt}
 use Rattle.tmem_spine.specs.Notes.{first_view, as_core, journal_from, pass_from, gives, note, spent, core_told, journal_told}
 use Rattle.tmem_spine.specs.Rule.{History, IsPass, Fits, KeepsHistory}
 use Rattle.tmem_spine.specs.Steps.{meets_core, gains, meets_journal}
@@ -95,7 +95,7 @@ passes start id v role based few s kept at =
     new
 
 -- a note of what is so
-noted : (start id : ℕ) (v : View) (known seen : List Entry) (trimmed : ℕ) → v.start ≡ start
+noted : (start id : ℕ) (v : View) (known seen : List MarkedEffect) (trimmed : ℕ) → v.start ≡ start
     → ((h : History) → IsPrefix h.durable h.committed → Fits start h id v → IsPrefix known h.committed × IsPrefix seen h.durable × (trimmed ≤ count start h.durable))
     → Splits (KeepsHistory start) id v v (note v.start known seen trimmed)
 noted start id v known seen trimmed based so s kept at =
@@ -109,12 +109,12 @@ noted start id v known seen trimmed based so s kept at =
 
 pub core_notes : (start id : ℕ) (v : View) → v.role ≡ Core → v.start ≡ start → Splits (KeepsHistory start) id v v (note v.start v.committed [] v.trimmed)
 core_notes start id v role based = noted start id v v.committed [] v.trimmed based (λ h all f.
-    (subst (λ (xs : List Entry). IsPrefix xs h.committed) (sym (f.is_core role).1) (IsPrefix-self h.committed), refl, f.trimmed))
+    (subst (λ (xs : List MarkedEffect). IsPrefix xs h.committed) (sym (f.is_core role).1) (IsPrefix-self h.committed), refl, f.trimmed))
 
 pub journal_notes : (start id : ℕ) (v : View) → v.role ≡ Journal → v.start ≡ start → Splits (KeepsHistory start) id v v (note v.start v.durable v.durable 0)
 journal_notes start id v role based = noted start id v v.durable v.durable 0 based (λ h all f.
     let durable = sym (f.is_journal role).3 in
-    (subst (λ (xs : List Entry). IsPrefix xs h.committed) durable all, subst (λ (xs : List Entry). IsPrefix xs h.durable) durable (IsPrefix-self h.durable), omega arith))
+    (subst (λ (xs : List MarkedEffect). IsPrefix xs h.committed) durable all, subst (λ (xs : List MarkedEffect). IsPrefix xs h.durable) durable (IsPrefix-self h.durable), omega arith))
 
 pub pass_notes : (start id : ℕ) (v : View) → v.start ≡ start → Splits (KeepsHistory start) id v v (note v.start v.known v.seen 0)
 pass_notes start id v based = noted start id v v.known v.seen 0 based (λ h all f. (f.known, f.seen, omega arith))
@@ -128,7 +128,7 @@ journal_hears start id v other w role =
     kept_join start id v other w (journal_told v w) (λ r. (r, refl)) (λ h f t. fits_as Journal role f.based t.known t.seen t.trimmed (f.is_journal role))
 
 -- a pass knows more, and perhaps has an effect more
-pass_hears : (start id : ℕ) (v : View) (other : ℕ) (w : View) (known : List Entry) (own : List (ℕ × Effect)) → v.role ≡ Pass
+pass_hears : (start id : ℕ) (v : View) (other : ℕ) (w : View) (known : List MarkedEffect) (own : List (ℕ × Effect)) → v.role ≡ Pass
     → ((h : History) → IsPrefix v.known h.committed → IsPrefix w.known h.committed → IsPrefix known h.committed)
     → (IsPass start v → IsPass start (record v { known = known; own = own })) → Joins (KeepsHistory start) id v other w (record v { known = known; own = own }) spent
 pass_hears start id v other w known own role so is_pass =
@@ -138,7 +138,7 @@ pub meets_core_note : (start id : ℕ) (v : View) (other : ℕ) (w : View) → v
 meets_core_note start id v other w role more = pass_hears start id v other w w.known v.own role (λ h p q. q) (λ is. pass_more start v w.known is more)
 
 pub gains_note : (start id : ℕ) (v : View) (other : ℕ) (w : View) (n : ℕ) (e : Effect) → v.role ≡ Pass → IsPrefix v.known w.known → count start v.known ≤ n
-    → HasAt start w.known n (entry v.mark e) → Joins (KeepsHistory start) id v other w (gains n e v w) spent
+    → HasAt start w.known n (marked_effect v.mark e) → Joins (KeepsHistory start) id v other w (gains n e v w) spent
 gains_note start id v other w n e role more behind at =
     pass_hears start id v other w w.known (v.own ++ (n, e) ∷ []) role (λ h p q. q) (λ is. pass_one start v w.known n e is more behind at)
 

@@ -4,15 +4,15 @@ use mathlib.Core.Option.{some}
 use lib.ListN.{get_elem?}
 use Rattle.atomic_table.specs.Table.{State}
 use Rattle.tmem_effect.specs.declared.effect.Effect.{Effect}
-use Rattle.tmem_spine.specs.declared.view.Entry.{Entry}
+use Rattle.tmem_spine.specs.declared.view.MarkedEffect.{MarkedEffect}
 use Rattle.tmem_spine.specs.declared.view.Role.TheVariants.{Pass}
 use Rattle.tmem_spine.specs.declared.view.View.{View}
-use Rattle.tmem_spine.specs.History.{entry, Has}
+use Rattle.tmem_spine.specs.History.{marked_effect, Has}
 use Rattle.tmem_spine.specs.Rule.{KeepsHistory}
 use Rattle.tmem_spine.proofs.Prefixes.{get_more}
 use Rattle.tmem_spine.proofs.Owning.{owned_at}
 
-some_is : (x y : Entry) → Some x ≡ Some y → x ≡ y
+some_is : (x y : MarkedEffect) → Some x ≡ Some y → x ≡ y
 some_is x y e = cc e
 
 pub number_of_one : (start : ℕ) (s : State ℕ View) (i j : ℕ) (v w : View) (n : ℕ) (e f : Effect) → KeepsHistory start s → get_elem? s.views i ≡ some v → get_elem? s.views j ≡ some w
@@ -23,7 +23,7 @@ number_of_one start s i j v w n e f kept there there' rv rw has has' =
     let two = kept.each j w there' in
     let at = owned_at start v.mark v.known v.own n e (one.is_pass rv).0.1 has in
     let at' = owned_at start w.mark w.known w.own n f (two.is_pass rw).0.1 has' in
-    let here = get_more v.known h.committed (n - start) (entry v.mark e) one.known at.1 in
-    let here' = get_more w.known h.committed (n - start) (entry w.mark f) two.known at'.1 in
-    let same : entry v.mark e ≡ entry w.mark f = some_is (entry v.mark e) (entry w.mark f) (sym here ∙ here') in
-    kept.apart i j v w there there' rv rw (ap (λ (x : Entry). x.mark) same)
+    let here = get_more v.known h.committed (n - start) (marked_effect v.mark e) one.known at.1 in
+    let here' = get_more w.known h.committed (n - start) (marked_effect w.mark f) two.known at'.1 in
+    let same : marked_effect v.mark e ≡ marked_effect w.mark f = some_is (marked_effect v.mark e) (marked_effect w.mark f) (sym here ∙ here') in
+    kept.apart i j v w there there' rv rw (ap (λ (x : MarkedEffect). x.mark) same)

@@ -4,7 +4,7 @@ use Rattle.std.proofs.lemmas.Bool.Decides.{nat_tests}
 use Rattle.std.proofs.lemmas.List.{take_all, take-take, take-append-le}
 use Rattle.tmem_effect.specs.Prefix.{IsPrefix}
 use Rattle.tmem_effect.proofs.Laws.{IsPrefix-self, IsPrefix-length}
-use Rattle.tmem_spine.specs.declared.view.Entry.{Entry}
+use Rattle.tmem_spine.specs.declared.view.MarkedEffect.{MarkedEffect}
 use Rattle.tmem_spine.specs.History.{longer}
 
 module _ {X : Type 0} where
@@ -49,12 +49,12 @@ module _ {X : Type 0} where
   get_last (y ∷ xs) x zero e = absurd (omega arith)
   get_last (y ∷ xs) x (suc k) e = get_last xs x k (omega arith)
 
-longer_by : (b : Bool) (xs ys zs : List Entry) → nat_lt (length xs) (length ys) ≡ b → IsPrefix xs zs → IsPrefix ys zs
+longer_by : (b : Bool) (xs ys zs : List MarkedEffect) → nat_lt (length xs) (length ys) ≡ b → IsPrefix xs zs → IsPrefix ys zs
     → IsPrefix xs (if b then ys else xs) × IsPrefix ys (if b then ys else xs) × IsPrefix (if b then ys else xs) zs
 longer_by true xs ys zs is p q = (prefix_shorter xs ys zs p q (grind (arith, nat_tests)), IsPrefix-self ys, q)
 longer_by false xs ys zs is p q = (IsPrefix-self xs, prefix_shorter ys xs zs q p (grind (arith, nat_tests)), p)
 
 -- of two prefixes of one history each is a prefix of the longer, which is one too
-pub longer_is : (xs ys zs : List Entry) → IsPrefix xs zs → IsPrefix ys zs
+pub longer_is : (xs ys zs : List MarkedEffect) → IsPrefix xs zs → IsPrefix ys zs
     → IsPrefix xs (longer xs ys) × IsPrefix ys (longer xs ys) × IsPrefix (longer xs ys) zs
 longer_is xs ys zs p q = longer_by (nat_lt (length xs) (length ys)) xs ys zs refl p q

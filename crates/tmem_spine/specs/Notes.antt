@@ -1,6 +1,6 @@
 -- The views of new seats, and what one seat tells another.
 use Rattle.std.specs.Prelude.{ℕ, ◌+◌, List, []}
-use Rattle.tmem_spine.specs.declared.view.Entry.{Entry}
+use Rattle.tmem_spine.specs.declared.view.MarkedEffect.{MarkedEffect}
 use Rattle.tmem_spine.specs.declared.view.Role.{Role}
 use Rattle.tmem_spine.specs.declared.view.Role.TheVariants.{Start, Core, Journal, Pass, Note, Spent}
 use Rattle.tmem_spine.specs.declared.view.View.{View}
@@ -41,7 +41,7 @@ abbrev pub gives : View → View
 gives v = record v { given = v.given + 1 }
 
 -- a note of what is committed, of what is durable, and of how many are
-abbrev pub note : ℕ → List Entry → List Entry → ℕ → View
+abbrev pub note : ℕ → List MarkedEffect → List MarkedEffect → ℕ → View
 note start known seen trimmed = record (blank_view Note start 0) { known = known; seen = seen; trimmed = trimmed }
 
 -- a note that was read

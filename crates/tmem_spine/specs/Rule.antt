@@ -5,17 +5,17 @@ use lib.ListN.{get_elem?}
 use Rattle.atomic_table.specs.Table.{State}
 use Rattle.tmem_effect.specs.Prefix.{IsPrefix}
 use Rattle.tmem_effect.specs.declared.effect.Effect.{Effect}
-use Rattle.tmem_spine.specs.declared.view.Entry.{Entry}
+use Rattle.tmem_spine.specs.declared.view.MarkedEffect.{MarkedEffect}
 use Rattle.tmem_spine.specs.declared.view.Role.TheVariants.{Start, Core, Journal, Pass, Spent}
 use Rattle.tmem_spine.specs.declared.view.View.{View}
-use Rattle.tmem_spine.specs.History.{count, entry, HasAt}
+use Rattle.tmem_spine.specs.History.{count, marked_effect, HasAt}
 
 -- What is committed, aimed at and durable, which seats are the core's and the journal's, how many passes were given out, and
 -- whether the journal has its seat.
 pub record History : Type 0 where
-  pub committed : List Entry
-  pub aimed : List Entry
-  pub durable : List Entry
+  pub committed : List MarkedEffect
+  pub aimed : List MarkedEffect
+  pub durable : List MarkedEffect
   pub core : ℕ
   pub journal : ℕ
   pub given : ℕ
@@ -31,9 +31,9 @@ pub record IsHistory (start : ℕ) (h : History) (words : List ℕ) : Type 0 whe
   pub few : h.given ≤ 32
 
 -- a pass's own effects stand in what it knows at their numbers, which ascend, under its mark
-pub record Owns (start mark : ℕ) (known : List Entry) (own : List (ℕ × Effect)) : Type 0 where
+pub record Owns (start mark : ℕ) (known : List MarkedEffect) (own : List (ℕ × Effect)) : Type 0 where
   pub ascend : AllPairs (λ (x y : ℕ × Effect). x.0 < y.0) own
-  pub stand : All (λ (x : ℕ × Effect). HasAt start known x.0 (entry mark x.1)) own
+  pub stand : All (λ (x : ℕ × Effect). HasAt start known x.0 (marked_effect mark x.1)) own
 
 -- what a pass saw is a prefix of what it knows, in which its own effects stand
 abbrev pub IsPass : ℕ → View → Type 0

@@ -3,7 +3,7 @@ use Rattle.std.specs.Prelude.{◌≡◌, ℕ, ◌-◌, ◌≤◌, [], ◌∷◌,
 use Rattle.atomic_table.specs.Table.{Me, Step}
 use Rattle.tmem_effect.specs.Prefix.{IsPrefix}
 use Rattle.tmem_effect.specs.declared.effect.Effect.{Effect}
-use Rattle.tmem_spine.specs.declared.view.Entry.{Entry}
+use Rattle.tmem_spine.specs.declared.view.MarkedEffect.{MarkedEffect}
 use Rattle.tmem_spine.specs.declared.view.View.{View}
 use Rattle.tmem_spine.specs.History.{count, longer}
 use Rattle.tmem_spine.specs.Rule.{IsPass}
@@ -16,7 +16,7 @@ abbrev pub told : Kind → Step ℕ → Me ℕ View → ℕ → Me ℕ View → 
 told kind st m n m' = (m'.1 ≡ m.1) × kind m.0 n m'.0
 
 -- accept: the core raises the committed word by one, for one effect
-abbrev pub Accepts : Entry → Kind
+abbrev pub Accepts : MarkedEffect → Kind
 Accepts e v n w = (w ≡ record v { committed = v.committed ++ e ∷ [] }) × (n ≡ count v.start v.committed)
 
 -- aim: the journal aims at what it was told is committed, up to a number. What is durable is a prefix of that.

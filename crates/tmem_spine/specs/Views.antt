@@ -2,7 +2,7 @@
 use Rattle.std.specs.Prelude.{ℕ, List, []}
 use Rattle.atomic_table.specs.Seated.{TableId}
 use Rattle.tmem_effect.specs.declared.effect.Effect.{Effect}
-use Rattle.tmem_spine.specs.declared.view.Entry.{Entry}
+use Rattle.tmem_spine.specs.declared.view.MarkedEffect.{MarkedEffect}
 use Rattle.tmem_spine.specs.declared.view.View.{View}
 
 -- which spine it is: its table, and the count at which its history starts
@@ -12,20 +12,20 @@ pub record SpineName : Type 0 where
 
 -- the core sees what is committed, the number up to which it was trimmed, and how many passes were given out
 pub record CoreRoleView : Type 0 where
-  pub committed : List Entry
+  pub committed : List MarkedEffect
   pub trimmed : ℕ
   pub given : ℕ
 
 -- the journal sees what it aims at, and what is durable
 pub record JournalRoleView : Type 0 where
-  pub aimed : List Entry
-  pub durable : List Entry
+  pub aimed : List MarkedEffect
+  pub durable : List MarkedEffect
 
 -- a pass sees its mark, what it knows to be committed, what it saw to be durable, and its own effects with their numbers
 pub record PassRoleView : Type 0 where
   pub mark : ℕ
-  pub known : List Entry
-  pub seen : List Entry
+  pub known : List MarkedEffect
+  pub seen : List MarkedEffect
   pub own : List (ℕ × Effect)
 
 abbrev pub core_role_view : View → CoreRoleView

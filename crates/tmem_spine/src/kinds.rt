@@ -7,21 +7,21 @@ use crate::view::View;
 use atomic_table::{Join, Play, Split};
 use std::marker::{Brand, PhantomData};
 
-/// What a call picks for its step: an entry, and a number.
+/// What a call picks for its step: an effect under a mark, and a number.
 pub trait Choice {
     ghost use Rattle.std.specs.Prelude.{ℕ};
-    ghost use Rattle.tmem_spine.specs.declared.view.Entry.{Entry};
+    ghost use Rattle.tmem_spine.specs.declared.view.MarkedEffect.{MarkedEffect};
 
-    ghost entry: { Entry };
+    ghost picked: { MarkedEffect };
 
     ghost number: { ℕ };
 }
 
 impl Choice for Brand {
     ghost use Rattle.tmem_effect.specs.State.{no_effect};
-    ghost use Rattle.tmem_spine.specs.History.{entry as entry_of};
+    ghost use Rattle.tmem_spine.specs.History.{marked_effect};
 
-    ghost entry = { entry_of 0 no_effect };
+    ghost picked = { marked_effect 0 no_effect };
 
     ghost number = { 0 };
 }
@@ -31,7 +31,7 @@ pub(crate) struct Accept<C> {
 }
 
 impl<C: Choice> Play<u8, View> for Accept<C> {
-    ghost then = { told (Accepts C.entry) };
+    ghost then = { told (Accepts C.picked) };
 }
 
 pub(crate) struct Aim<C> {
@@ -144,7 +144,7 @@ pub(crate) struct Gain<C> {
 }
 
 impl<C: Choice> Join<View> for Gain<C> {
-    ghost both = { gains C.number C.entry.effect };
+    ghost both = { gains C.number C.picked.effect };
 
     ghost spent = { spent };
 }

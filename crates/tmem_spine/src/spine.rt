@@ -2,7 +2,7 @@
 ghost use Rattle.std.specs.Prelude.{◌≡◌, ℕ, ◌+◌, ◌-◌, ◌^◌, ◌<◌, ◌≤◌, [], ◌∷◌, ◌++◌, length, take, IfSome, IfNone};
 ghost use Rattle.tmem_effect.specs.Prefix.{IsPrefix};
 ghost use Rattle.tmem_effect.specs.declared.effect.Effect.{Effect as EffectOf};
-ghost use Rattle.tmem_spine.specs.History.{count, entry, longer, Has, HasAt};
+ghost use Rattle.tmem_spine.specs.History.{count, marked_effect, longer, Has, HasAt};
 ghost use Rattle.tmem_spine.specs.Views.{new_pass};
 
 use crate::naming::Naming;
@@ -67,7 +67,7 @@ impl<N: Naming> Spine<N> {
         requires room { count N.name.start core.old.committed + 1 < 2 ^ 64 }
         requires begins { IsPrefix pass.old.known core.old.committed }
         ensures number { result ≡ count N.name.start core.old.committed }
-        ensures core { core.new ≡ record core.old { committed = core.old.committed ++ entry pass.old.mark effect.now ∷ [] } }
+        ensures core { core.new ≡ record core.old { committed = core.old.committed ++ marked_effect pass.old.mark effect.now ∷ [] } }
         ensures pass { pass.new ≡ record pass.old { known = core.new.committed; own = pass.old.own ++ (result, effect.now) ∷ [] } }
     {
         let number = self.accept_step::<Brand>(&mut core.place, &pass.place, effect);
@@ -139,7 +139,7 @@ impl<N: Naming> Spine<N> {
         ensures least { count N.name.start pass.old.seen ≤ count N.name.start journal.old.durable }
         ensures most { count N.name.start journal.old.durable ≤ count N.name.start pass.new.known }
         ensures stands { (number : ℕ) (effect : EffectOf) → number < count N.name.start pass.old.seen → Has pass.old.own number effect
-            → HasAt N.name.start journal.old.durable number (entry pass.old.mark effect) }
+            → HasAt N.name.start journal.old.durable number (marked_effect pass.old.mark effect) }
     {
         let note = self.pass_tells(&mut pass.place);
         self.journal_hears(&mut journal.place, note);

@@ -2,7 +2,7 @@
 ghost use Rattle.std.specs.Prelude.{◌≡◌, ◌+◌, ◌-◌, ◌^◌, ◌<◌, ◌≤◌, [], ◌∷◌, ◌++◌, length, take};
 ghost use Rattle.tmem_effect.specs.Prefix.{IsPrefix};
 ghost use Rattle.tmem_spine.specs.declared.view.Role.TheVariants as role;
-ghost use Rattle.tmem_spine.specs.History.{count, entry, longer, HasAt};
+ghost use Rattle.tmem_spine.specs.History.{count, marked_effect, longer, HasAt};
 ghost use Rattle.tmem_spine.specs.Notes.{gives, pass_from};
 ghost use Rattle.tmem_spine.specs.Rule.{IsPass};
 
@@ -37,9 +37,9 @@ impl<N: Naming> Spine<N> {
         effect: &Effect,
     ) -> u64
         requires role { core.old.role ≡ role.Core }
-        requires choice { C.entry ≡ entry pass.now.mark effect.now }
+        requires choice { C.picked ≡ marked_effect pass.now.mark effect.now }
         requires room { count N.name.start core.old.committed + 1 < 2 ^ 64 }
-        ensures core { core.new ≡ record core.old { committed = core.old.committed ++ C.entry ∷ [] } }
+        ensures core { core.new ≡ record core.old { committed = core.old.committed ++ C.picked ∷ [] } }
         ensures number { result ≡ count N.name.start core.old.committed }
     {
         self.table
@@ -127,11 +127,11 @@ impl<N: Naming> Spine<N> {
         effect: &Effect,
     )
         requires role { pass.old.role ≡ role.Pass }
-        requires choice { (C.entry.mark ≡ pass.old.mark) × (C.entry.effect ≡ effect.now) × (C.number ≡ number) }
+        requires choice { (C.picked.mark ≡ pass.old.mark) × (C.picked.effect ≡ effect.now) × (C.number ≡ number) }
         requires is_pass { IsPass N.name.start pass.old }
         requires begins { IsPrefix pass.old.known note.known }
         requires behind { count N.name.start pass.old.known ≤ number }
-        requires stands { HasAt N.name.start note.known number C.entry }
+        requires stands { HasAt N.name.start note.known number C.picked }
         ensures pass { pass.new ≡ record pass.old { known = note.known; own = pass.old.own ++ (number, effect.now) ∷ [] } }
         ensures is_pass { IsPass N.name.start pass.new }
     {

@@ -5,7 +5,7 @@ use tmem_effect::Effect;
 
 /// A committed effect, under the mark of the pass for which it was committed.
 #[derive(Drop)]
-pub struct Entry {
+pub struct MarkedEffect {
     pub mark: u64,
     pub effect: Effect,
 }
@@ -32,12 +32,12 @@ pub struct View {
     pub start: u64,
 
     /// Of the core: what is committed, and how many passes were given out.
-    pub committed: LinkedList<Entry>,
+    pub committed: LinkedList<MarkedEffect>,
     pub given: u64,
 
     /// Of the journal: what it aims at, and what is durable.
-    pub aimed: LinkedList<Entry>,
-    pub durable: LinkedList<Entry>,
+    pub aimed: LinkedList<MarkedEffect>,
+    pub durable: LinkedList<MarkedEffect>,
 
     /// Of a pass: its mark, and the numbers and effects that are its own.
     pub mark: u64,
@@ -45,8 +45,8 @@ pub struct View {
 
     /// What is known of the committed effects and of the durable ones, and a number that so many are durable. The core and
     /// the journal have the first two from whoever told them last.
-    pub known: LinkedList<Entry>,
-    pub seen: LinkedList<Entry>,
+    pub known: LinkedList<MarkedEffect>,
+    pub seen: LinkedList<MarkedEffect>,
     pub trimmed: u64,
 }
 

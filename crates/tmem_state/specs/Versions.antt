@@ -8,10 +8,10 @@ abbrev pub version_number : Version → ℕ
 version_number One = 1
 version_number Two = 2
 
--- the number that the header of an image ends with
-abbrev pub mark_of : Version → ℕ
-mark_of One = 0
-mark_of Two = 2
+-- the byte that the header of an image of a version ends with
+abbrev pub version_byte : Version → ℕ
+version_byte One = 0
+version_byte Two = 2
 
 -- a record of this version may retire these names: of the first version none
 abbrev pub MayRetire : Version → List (List ℕ) → Type 0

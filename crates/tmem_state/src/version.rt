@@ -1,7 +1,7 @@
 // The versions of the format.
 ghost use Rattle.std.specs.Prelude.{◌≡◌, IfSome, IfNone};
 ghost use Rattle.tmem_state.specs.declared.version.Version.{Version as VersionOf};
-ghost use Rattle.tmem_state.specs.Versions.{version_number, mark_of};
+ghost use Rattle.tmem_state.specs.Versions.{version_number, version_byte};
 
 /// A version of the format. Both are read, and the second is written. Only the second has retired names in its records.
 #[derive(Clone, Copy, Debug, PartialEq, Eq)]
@@ -24,11 +24,11 @@ impl Version {
     }
 
     /// The version of an image whose header ends with this byte, or `None` where there is no such version.
-    pub fn of_mark(mark: u8) -> Option<Version>
-        ensures found { IfSome result (λ v. mark ≡ mark_of v) }
-        ensures none { IfNone result ((v : VersionOf) → mark ≡ mark_of v → ⊥) }
+    pub fn of_byte(byte: u8) -> Option<Version>
+        ensures found { IfSome result (λ v. byte ≡ version_byte v) }
+        ensures none { IfNone result ((v : VersionOf) → byte ≡ version_byte v → ⊥) }
     {
-        match mark {
+        match byte {
             0 => Some(Version::One),
             2 => Some(Version::Two),
             _ => None,
@@ -46,8 +46,8 @@ impl Version {
     }
 
     /// The byte that the header of an image of this version ends with.
-    pub fn mark(self) -> u8
-        ensures { result ≡ mark_of self }
+    pub fn byte(self) -> u8
+        ensures { result ≡ version_byte self }
     {
         match self {
             Version::One => 0,

@@ -1,7 +1,7 @@
 -- The answers that tests gave, and one more.
 use Rattle.std.proofs.Common.{◌≡◌, ℕ, ℤ, Bool, List, [], ◌∷◌, ◌++◌, length, Option, Some, None}
 use Rattle.tmem_invariants.specs.Meanings.{Meanings}
-use Rattle.tmem_effect.specs.Writes.{look}
+use Rattle.tmem_effect.specs.Writes.{value_in}
 use Rattle.tmem_tree.specs.declared.tx.Tx.{Tx}
 use Rattle.tmem_tree.specs.Run.{start}
 use Rattle.tmem_tree.specs.StepAnswers.{StepMeanings}
@@ -20,7 +20,7 @@ module _ (tests : Meanings) (reads : List (ℕ × ℤ)) (name : List ℕ) (value
   -- the answer to the first test that is open
   gave_more : (asks : List Ask) (answers : List Bool) → Gave tests answers asks → first_open reads (length answers) asks ≡ Some (Probe name values) → Gave tests (answers ++ held ∷ []) asks
   gave_more [] answers gave first = tt
-  gave_more (Visit var ∷ more) answers gave first = gave_more more answers gave (on (look reads var) first) where
+  gave_more (Visit var ∷ more) answers gave first = gave_more more answers gave (on (value_in reads var) first) where
     on : (o : Option ℤ) → if_there o (Visit var) (first_open reads (length answers) more) ≡ Some (Probe name values) → first_open reads (length answers) more ≡ Some (Probe name values)
     on (Some n) e = e
     on None e = cc

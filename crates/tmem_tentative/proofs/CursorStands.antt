@@ -5,7 +5,7 @@ use Rattle.std.proofs.lemmas.Bool.{eqb-true}
 use Rattle.indexmap.specs.IndexMap.{insert_entry}
 use Rattle.tmem_invariants.specs.Meanings.{Meanings}
 use Rattle.tmem_effect.specs.State.{no_effect}
-use Rattle.tmem_effect.specs.Writes.{look}
+use Rattle.tmem_effect.specs.Writes.{value_in}
 use Rattle.tmem_tree.specs.Limits.{choices}
 use Rattle.tmem_tree.specs.Plans.{PlanView, IsWithinLimits, FitsSteps, HasShapes}
 use Rattle.tmem_tree.specs.Run.{no_registers}
@@ -33,7 +33,7 @@ use Rattle.tmem_tentative.specs.Cursors.{IsAt, StandsIn, IsAtStage, MayGoOn, Eva
 use Rattle.tmem_tentative.specs.CursorFacts.{MayGoOn-prop}
 use Rattle.tmem_tentative.proofs.EvalSeen.{covers_refl}
 use Rattle.tmem_tentative.proofs.MadeOutcomes.{FitsPlan, need_lacks, made_fits_plan, end_made}
-use Rattle.tmem_tentative.proofs.ReadEntries.{look-insert}
+use Rattle.tmem_tentative.proofs.ReadEntries.{value_in-insert}
 use Rattle.tmem_tentative.proofs.RightOutcomes.{made_right}
 
 -- what was answered last is what the evaluation comes to
@@ -63,10 +63,10 @@ at_still m tests plan old new stands same_given same_answers at = record {
 }
 
 -- reads that have a new value have the values before it
-covers_before : (reads seen : List (ℕ × ℤ)) (var : ℕ) (n : ℤ) → look seen var ≡ None → Covers reads (insert_entry nat_eq seen var n) → Covers reads seen
-covers_before reads seen var n none covers = record { at = λ v x h. covers.at v x (look-insert seen var n v ∙ on v (nat_eq v var) refl x h) } where
-  on : (v : ℕ) (b : Bool) → nat_eq v var ≡ b → (x : ℤ) → look seen v ≡ Some x → cond b (Some n) (look seen v) ≡ Some x
-  on v true e x h = let no : look seen v ≡ None = ap (look seen) (eqb-true v var e) ∙ none in cc
+covers_before : (reads seen : List (ℕ × ℤ)) (var : ℕ) (n : ℤ) → value_in seen var ≡ None → Covers reads (insert_entry nat_eq seen var n) → Covers reads seen
+covers_before reads seen var n none covers = record { at = λ v x h. covers.at v x (value_in-insert seen var n v ∙ on v (nat_eq v var) refl x h) } where
+  on : (v : ℕ) (b : Bool) → nat_eq v var ≡ b → (x : ℤ) → value_in seen v ≡ Some x → cond b (Some n) (value_in seen v) ≡ Some x
+  on v true e x h = let no : value_in seen v ≡ None = ap (value_in seen) (eqb-true v var e) ∙ none in cc
   on v false e x h = h
 
 module _ (m : StepMeanings) (footprint : List ℕ → List ℕ) (plan : Tx) (answers : List Bool) (p : Place) (seen : List (ℕ × ℤ)) where

@@ -18,12 +18,12 @@ use Rattle.tmem_tree.specs.Visited.{Ask, Visit, Probe}
 use Rattle.tmem_invariants.specs.TableNames.{AreBelow}
 use Rattle.tmem_effect.specs.declared.effect.Effect.{Effect}
 use Rattle.tmem_effect.specs.Names.{has_name, with_name, without_name, AreApart}
-use Rattle.tmem_effect.specs.Writes.{look, with_write}
+use Rattle.tmem_effect.specs.Writes.{value_in, with_write}
 use Rattle.tmem_effect.proofs.Laws.{AreApart-check, AreApart-retire, All-with_name, All-without_names, length-without_name-le}
 use Rattle.tmem_tree.specs.Limits.{one_if, count, count_all, is_write, is_check, is_retire, has_bad_variable, has_unknown_name, lacks_shape}
 use Rattle.tmem_tree.specs.Run.{register, is_zero}
 use Rattle.tmem_tentative.proofs.ReadEntries.{write_is_insert}
-use Rattle.tmem_tentative.specs.Eval.{RunState, Taken, Leaving, Gives_up, Breaks, Flow, Goes, Stops, Retries, Leaves, Looked, Lacks, Found, eval, eval_all, then_eval, else_eval, read, eval_answered, saw, eval_check, before, look_first, looked, tested, eval_checked}
+use Rattle.tmem_tentative.specs.Eval.{RunState, Taken, Leaving, Gives_up, Breaks, Flow, Goes, Stops, Retries, Leaves, FootprintSeen, Lacks, Found, eval, eval_all, then_eval, else_eval, read, eval_answered, saw, eval_check, before, see_first, footprint_seen, tested, eval_checked}
 
 -- each of these variables is one of so many
 abbrev pub Below : ℕ → List (ℕ × ℤ) → Type 0
@@ -109,7 +109,7 @@ module _ (Q R U : Type 0) (vars : ℕ) (names : List (List ℕ)) where
   module _ (steps : StepMeanings) (footprint : List ℕ → List ℕ) (reads : List (ℕ × ℤ)) where
     -- a variable that the reads lack, or a test with as many values as its footprint has variables
     abbrev pub IsGoodAsk : Ask → Type 0
-    IsGoodAsk (Visit var) = (Q → var < vars) × (look reads var ≡ None)
+    IsGoodAsk (Visit var) = (Q → var < vars) × (value_in reads var ≡ None)
     IsGoodAsk (Probe name values) = (R → has_name names name ≡ true) × (length values ≡ length (footprint name))
 
     -- an invariant that was false has one of these names
@@ -135,7 +135,7 @@ module _ (Q R U : Type 0) (vars : ℕ) (names : List (List ℕ)) where
     else_good w c r (Retries seen) on g k = k seen g
     else_good w c r (Leaves how seen) on g k = g
 
-    read_good : (w c r : ℕ) (s : RunState) (var reg : ℕ) (o p : Option ℤ) → look reads var ≡ p → (Q → var < vars) → (Q → Below vars s.seen.reads) → IsGood w c r s.effect → IsGoodFlow w c r (read o p s var reg)
+    read_good : (w c r : ℕ) (s : RunState) (var reg : ℕ) (o p : Option ℤ) → value_in reads var ≡ p → (Q → var < vars) → (Q → Below vars s.seen.reads) → IsGood w c r s.effect → IsGoodFlow w c r (read o p s var reg)
     read_good w c r s var reg (Some x) p e h b g = (b, g)
     read_good w c r s var reg None (Some x) e h b g = ((λ q. below_insert vars s.seen.reads var x (h q) (b q)), g)
     read_good w c r s var reg None None e h b g = (h, e)
@@ -150,26 +150,26 @@ module _ (Q R U : Type 0) (vars : ℕ) (names : List (List ℕ)) where
     cond_good false w c r e f g h = h
 
     -- a look at so many variables, from a state of this effect
-    abbrev IsGoodLook : ℕ → Effect → Looked → Type 0
+    abbrev IsGoodLook : ℕ → Effect → FootprintSeen → Type 0
     IsGoodLook n effect (Lacks var) = IsGoodAsk (Visit var)
     IsGoodLook n effect (Found values s) = (length values ≡ n) × (s.effect ≡ effect) × (Q → Below vars s.seen.reads)
 
-    before_good : (var : ℕ) (vs : List ℕ) (effect : Effect) (x : ℤ) (l : Looked) → IsGoodLook (length vs) effect l → IsGoodLook (length (var ∷ vs)) effect (before x l)
+    before_good : (var : ℕ) (vs : List ℕ) (effect : Effect) (x : ℤ) (l : FootprintSeen) → IsGoodLook (length vs) effect l → IsGoodLook (length (var ∷ vs)) effect (before x l)
     before_good var vs effect x (Lacks v) g = g
     before_good var vs effect x (Found values s) g = (omega (arith, g.0), g.1, g.2)
 
-    look_good : (s : RunState) (var : ℕ) (vs : List ℕ) (o p : Option ℤ) → look reads var ≡ p → (Q → var < vars) → (Q → Below vars s.seen.reads) → ((s' : RunState) → s'.effect ≡ s.effect → (Q → Below vars s'.seen.reads) → IsGoodLook (length vs) s.effect (looked reads vs s'))
-        → IsGoodLook (length (var ∷ vs)) s.effect (look_first o p s var (looked reads vs))
-    look_good s var vs (Some x) p e h b k = before_good var vs s.effect x (looked reads vs s) (k s refl b)
-    look_good s var vs None (Some x) e h b k =
-        before_good var vs s.effect x (looked reads vs (saw s var x)) (k (saw s var x) refl (λ q. below_insert vars s.seen.reads var x (h q) (b q)))
-    look_good s var vs None None e h b k = (h, e)
+    value_good : (s : RunState) (var : ℕ) (vs : List ℕ) (o p : Option ℤ) → value_in reads var ≡ p → (Q → var < vars) → (Q → Below vars s.seen.reads) → ((s' : RunState) → s'.effect ≡ s.effect → (Q → Below vars s'.seen.reads) → IsGoodLook (length vs) s.effect (footprint_seen reads vs s'))
+        → IsGoodLook (length (var ∷ vs)) s.effect (see_first o p s var (footprint_seen reads vs))
+    value_good s var vs (Some x) p e h b k = before_good var vs s.effect x (footprint_seen reads vs s) (k s refl b)
+    value_good s var vs None (Some x) e h b k =
+        before_good var vs s.effect x (footprint_seen reads vs (saw s var x)) (k (saw s var x) refl (λ q. below_insert vars s.seen.reads var x (h q) (b q)))
+    value_good s var vs None None e h b k = (h, e)
 
-    looked_good : (vs : List ℕ) (s : RunState) → (Q → AreBelow vars vs) → (Q → Below vars s.seen.reads) → IsGoodLook (length vs) s.effect (looked reads vs s)
-    looked_good [] s h b = (refl, refl, b)
-    looked_good (var ∷ vs) s h b =
-        look_good s var vs (look s.effect.writes var) (look reads var) refl (λ q. All-head (λ v. v < vars) var vs (h q)) b
-        (λ s' same b'. subst (λ e. IsGoodLook (length vs) e (looked reads vs s')) same (looked_good vs s' (λ q. All-tail (λ v. v < vars) var vs (h q)) b'))
+    footprint_good : (vs : List ℕ) (s : RunState) → (Q → AreBelow vars vs) → (Q → Below vars s.seen.reads) → IsGoodLook (length vs) s.effect (footprint_seen reads vs s)
+    footprint_good [] s h b = (refl, refl, b)
+    footprint_good (var ∷ vs) s h b =
+        value_good s var vs (value_in s.effect.writes var) (value_in reads var) refl (λ q. All-head (λ v. v < vars) var vs (h q)) b
+        (λ s' same b'. subst (λ e. IsGoodLook (length vs) e (footprint_seen reads vs s')) same (footprint_good vs s' (λ q. All-tail (λ v. v < vars) var vs (h q)) b'))
 
     -- an effect that takes a name, and one that retires it
     abbrev named : Effect → List ℕ → Effect
@@ -207,7 +207,7 @@ module _ (Q R U : Type 0) (vars : ℕ) (names : List (List ℕ)) where
     tested_good w c r (true ∷ left) name values s a b g = (b, g)
     tested_good w c r (false ∷ left) name values s a b g = (b, a.0)
 
-    checked_good : (w c r : ℕ) (name : List ℕ) (effect : Effect) (l : Looked) → IsGoodLook (length (footprint name)) effect l → (R → has_name names name ≡ true) → IsGood w c r (named effect name) → IsGoodFlow w c r (eval_checked l name)
+    checked_good : (w c r : ℕ) (name : List ℕ) (effect : Effect) (l : FootprintSeen) → IsGoodLook (length (footprint name)) effect l → (R → has_name names name ≡ true) → IsGood w c r (named effect name) → IsGoodFlow w c r (eval_checked l name)
     checked_good w c r name effect (Lacks var) l known g = l
     checked_good w c r name effect (Found values s) l known g =
         tested_good w c r s.seen.left name values s (known, l.0) l.2 (subst (λ e. IsGood w c r (named e name)) (sym l.1) g)
@@ -218,7 +218,7 @@ module _ (Q R U : Type 0) (vars : ℕ) (names : List (List ℕ)) where
           → (Q → Below vars s.seen.reads) → IsGood w c r s.effect → IsGoodFlow w' c' r' (eval steps footprint reads tx s)
       good low (Seq' shape txs) w c r w' c' r' s v d e h k u b g =
           good_all low txs w c r w' c' r' s (omega arith) (omega arith) (omega arith) (λ q. omega (arith, h q)) (λ x. omega (arith, k x)) (λ x. omega (arith, u x)) b g
-      good low (Read var reg) w c r w' c' r' s v d e h k u b g = read_good w' c' r' s var reg (look s.effect.writes var) (look reads var) refl (λ q. below_if vars var (h q)) b (more (omega arith) (omega arith) (omega arith) g)
+      good low (Read var reg) w c r w' c' r' s v d e h k u b g = read_good w' c' r' s var reg (value_in s.effect.writes var) (value_in reads var) refl (λ q. below_if vars var (h q)) b (more (omega arith) (omega arith) (omega arith) g)
       good low (Write var reg) w c r w' c' r' s v d e h k u b g =
           let n = register s.registers reg in (
             b,
@@ -246,7 +246,7 @@ module _ (Q R U : Type 0) (vars : ℕ) (names : List (List ℕ)) where
       good low (Abort code) w c r w' c' r' s v d e h k u b g = (b, tt)
       good low (Check name) w c r w' c' r' s v d e h k u b g =
           let known : R → has_name names name ≡ true = λ x. is_known _ (k x) in
-          checked_good w' c' r' name s.effect (looked reads (footprint name) s) (looked_good (footprint name) s (λ q. low q name) b) known (named_good w c r w' c' r' s.effect name (omega arith) d (omega arith) known g)
+          checked_good w' c' r' name s.effect (footprint_seen reads (footprint name) s) (footprint_good (footprint name) s (λ q. low q name) b) known (named_good w c r w' c' r' s.effect name (omega arith) d (omega arith) known g)
       good low (Retire name) w c r w' c' r' s v d e h k u b g = (b, retired_good w c r w' c' r' s.effect name (omega arith) (omega arith) e (λ x. is_known _ (u x)) g)
       good low tx w c r w' c' r' s v d e h k u b g = (b, more (omega arith) (omega arith) (omega arith) g)
 

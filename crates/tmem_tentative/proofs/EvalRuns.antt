@@ -9,25 +9,25 @@ use Rattle.tmem_tree.specs.declared.tx.Tx.TheVariants.{Seq', Read, Write, Step, 
 use Rattle.tmem_tree.specs.declared.step.StepAnswer.{StepAnswer}
 use Rattle.tmem_tree.specs.declared.step.StepAnswer.TheVariants as answer
 use Rattle.tmem_tree.specs.StepAnswers.{StepMeanings}
-use Rattle.tmem_effect.specs.Writes.{look, with_write}
+use Rattle.tmem_effect.specs.Writes.{value_in, with_write}
 use Rattle.tmem_tree.specs.Run as run
 use Rattle.tmem_tree.specs.Run.{View, RunResult, Normal, Retried, Aborted, Broken, run, run_all, updated, register, is_zero, then_run, or_else}
 use Rattle.tmem_tree.specs.Visited.{Ask, Visit, Probe, asks, asks_all, read_of, unwritten, then_ask, else_ask, visits_in}
-use Rattle.tmem_tentative.specs.Eval.{RunState, Taken, Leaving, Gives_up, Breaks, Flow, Goes, Stops, Retries, Leaves, Looked, Lacks, Found, eval, eval_all, then_eval, else_eval, read, eval_answered, saw, before, look_first, looked, tested, eval_checked}
+use Rattle.tmem_tentative.specs.Eval.{RunState, Taken, Leaving, Gives_up, Breaks, Flow, Goes, Stops, Retries, Leaves, FootprintSeen, Lacks, Found, eval, eval_all, then_eval, else_eval, read, eval_answered, saw, before, see_first, footprint_seen, tested, eval_checked}
 use Rattle.tmem_tentative.specs.Right.{Agrees, Gave, if_there, first_open}
-use Rattle.tmem_tentative.proofs.ReadEntries.{write_is_insert, look-insert, note, note-append}
+use Rattle.tmem_tentative.proofs.ReadEntries.{write_is_insert, value_in-insert, note, note-append}
 
 -- a map under some writes
 abbrev pub overlay : (ℕ → ℤ) → List (ℕ × ℤ) → ℕ → ℤ
-overlay values ws v = unwrap_or (look ws v) (values v)
+overlay values ws v = unwrap_or (value_in ws v) (values v)
 
 -- the view of a state on a map
 abbrev pub view_of : (ℕ → ℤ) → RunState → View
 view_of values s = record { values = overlay values s.effect.writes; registers = s.registers; effect = s.effect }
 
 pub overlay-write : (values : ℕ → ℤ) (ws : List (ℕ × ℤ)) (x : ℕ) (n : ℤ) → overlay values (with_write ws x n) ≡ updated (overlay values ws) x n
-overlay-write values ws x n = fun_ext (λ v. ap (λ es. unwrap_or (look es v) (values v)) (write_is_insert ws x n) ∙ ap (λ o. unwrap_or o (values v)) (look-insert ws x n v) ∙ on v (nat_eq v x)) where
-  on : (v : ℕ) (b : Bool) → unwrap_or (cond b (Some n) (look ws v)) (values v) ≡ cond b n (overlay values ws v)
+overlay-write values ws x n = fun_ext (λ v. ap (λ es. unwrap_or (value_in es v) (values v)) (write_is_insert ws x n) ∙ ap (λ o. unwrap_or o (values v)) (value_in-insert ws x n v) ∙ on v (nat_eq v x)) where
+  on : (v : ℕ) (b : Bool) → unwrap_or (cond b (Some n) (value_in ws v)) (values v) ≡ cond b n (overlay values ws v)
   on v true = refl
   on v false = refl
 
@@ -76,7 +76,7 @@ module _ (tests : Meanings) where
 module _ (reads : List (ℕ × ℤ)) where
   open_behind : (left : List Bool) (xs ys : List Ask) → first_open reads (length left) xs ≡ None → first_open reads (length left) (xs ++ ys) ≡ first_open reads (length (left_behind left xs)) ys
   open_behind left [] ys h = refl
-  open_behind left (Visit var ∷ xs) ys h = on (look reads var) (open_behind left xs ys) h where
+  open_behind left (Visit var ∷ xs) ys h = on (value_in reads var) (open_behind left xs ys) h where
     on : (o : Option ℤ) → (first_open reads (length left) xs ≡ None → first_open reads (length left) (xs ++ ys) ≡ first_open reads (length (left_behind left xs)) ys) → if_there o (Visit var) (first_open reads (length left) xs) ≡ None → if_there o (Visit var) (first_open reads (length left) (xs ++ ys)) ≡ first_open reads (length (left_behind left xs)) ys
     on (Some n) k h = k h
     on None k h = cc
@@ -85,7 +85,7 @@ module _ (reads : List (ℕ × ℤ)) where
 
   open_early : (n : ℕ) (xs ys : List Ask) (ask : Ask) → first_open reads n xs ≡ Some ask → first_open reads n (xs ++ ys) ≡ Some ask
   open_early n [] ys ask h = cc
-  open_early n (Visit var ∷ xs) ys ask h = on (look reads var) (open_early n xs ys ask) h where
+  open_early n (Visit var ∷ xs) ys ask h = on (value_in reads var) (open_early n xs ys ask) h where
     on : (o : Option ℤ) → (first_open reads n xs ≡ Some ask → first_open reads n (xs ++ ys) ≡ Some ask) → if_there o (Visit var) (first_open reads n xs) ≡ Some ask → if_there o (Visit var) (first_open reads n (xs ++ ys)) ≡ Some ask
     on (Some n) k h = k h
     on None k h = h
@@ -171,22 +171,22 @@ module _ (reads : List (ℕ × ℤ)) (values : ℕ → ℤ) where
     tested_tells (false ∷ left) name vs s g =
         (ap (λ b. run.checked b (view_of values s) name) (sym g.0), refl, refl)
 
-  read_tells : Agrees values reads → (s : RunState) (var reg : ℕ) (o p : Option ℤ) → look s.effect.writes var ≡ o → look reads var ≡ p → Tells s.seen (Normal (run.put (view_of values s) reg (overlay values s.effect.writes var))) (read_of o var) (read o p s var reg)
+  read_tells : Agrees values reads → (s : RunState) (var reg : ℕ) (o p : Option ℤ) → value_in s.effect.writes var ≡ o → value_in reads var ≡ p → Tells s.seen (Normal (run.put (view_of values s) reg (overlay values s.effect.writes var))) (read_of o var) (read o p s var reg)
   read_tells agrees s var reg (Some n) p h k = (ap (λ m. Normal (run.put (view_of values s) reg m)) (ap (λ o. unwrap_or o (values var)) h), refl, refl)
   read_tells agrees s var reg None (Some n) h k =
       (ap (λ m. Normal (run.put (view_of values s) reg m)) (ap (λ o. unwrap_or o (values var)) h ∙ agrees var n k), ap (λ o. if_there o (Visit var) None) k, ap (λ m. record { reads = insert_entry nat_eq s.seen.reads var m; left = s.seen.left }) (sym (agrees var n k)))
   read_tells agrees s var reg None None h k = ap (λ o. if_there o (Visit var) None) k
 
   -- behind what a state took, these values and these visits of a footprint, and a look at it over the reads
-  abbrev LookTells : RunState → List ℤ → List Ask → Looked → Type 0
+  abbrev LookTells : RunState → List ℤ → List Ask → FootprintSeen → Type 0
   LookTells s vs xs (Lacks var) = first_open reads (length s.seen.left) xs ≡ Some (Visit var)
   LookTells s vs xs (Found more s') = (more ≡ vs) × (first_open reads (length s.seen.left) xs ≡ None) × (s' ≡ record s { seen = took s.seen xs })
 
-  own_tells : (s : RunState) (n : ℤ) (vs : List ℤ) (xs : List Ask) (l : Looked) → LookTells s vs xs l → LookTells s (n ∷ vs) xs (before n l)
+  own_tells : (s : RunState) (n : ℤ) (vs : List ℤ) (xs : List Ask) (l : FootprintSeen) → LookTells s vs xs l → LookTells s (n ∷ vs) xs (before n l)
   own_tells s n vs xs (Lacks var) t = t
   own_tells s n vs xs (Found more s') t = (ap (λ l. n ∷ l) t.0, t.1, t.2)
 
-  saw_tells : Agrees values reads → (s : RunState) (var : ℕ) (n : ℤ) → look reads var ≡ Some n → (vs : List ℤ) (xs : List Ask) (l : Looked) → LookTells (saw s var n) vs xs l → LookTells s (values var ∷ vs) (Visit var ∷ xs) (before n l)
+  saw_tells : Agrees values reads → (s : RunState) (var : ℕ) (n : ℤ) → value_in reads var ≡ Some n → (vs : List ℤ) (xs : List Ask) (l : FootprintSeen) → LookTells (saw s var n) vs xs l → LookTells s (values var ∷ vs) (Visit var ∷ xs) (before n l)
   saw_tells agrees s var n is vs xs (Lacks v) t =
       ap (λ o. if_there o (Visit var) (first_open reads (length s.seen.left) xs)) is ∙ t
   saw_tells agrees s var n is vs xs (Found more s') t = (
@@ -195,21 +195,21 @@ module _ (reads : List (ℕ × ℤ)) (values : ℕ → ℤ) where
     t.2 ∙ ap (λ m. record s { seen = took (record { reads = insert_entry nat_eq s.seen.reads var m; left = s.seen.left }) xs }) (sym (agrees var n is)),
   )
 
-  look_tells : Agrees values reads → (s : RunState) (var : ℕ) (o p : Option ℤ) → look reads var ≡ p → (vs : List ℤ) (xs : List Ask) (on : RunState → Looked) → ((s' : RunState) → s'.effect ≡ s.effect → LookTells s' vs xs (on s'))
-      → LookTells s (unwrap_or o (values var) ∷ vs) (read_of o var ++ xs) (look_first o p s var on)
-  look_tells agrees s var (Some n) p is vs xs on k = own_tells s n vs xs (on s) (k s refl)
-  look_tells agrees s var None (Some n) is vs xs on k = saw_tells agrees s var n is vs xs (on (saw s var n)) (k (saw s var n) refl)
-  look_tells agrees s var None None is vs xs on k = ap (λ o. if_there o (Visit var) (first_open reads (length s.seen.left) xs)) is
+  value_tells : Agrees values reads → (s : RunState) (var : ℕ) (o p : Option ℤ) → value_in reads var ≡ p → (vs : List ℤ) (xs : List Ask) (on : RunState → FootprintSeen) → ((s' : RunState) → s'.effect ≡ s.effect → LookTells s' vs xs (on s'))
+      → LookTells s (unwrap_or o (values var) ∷ vs) (read_of o var ++ xs) (see_first o p s var on)
+  value_tells agrees s var (Some n) p is vs xs on k = own_tells s n vs xs (on s) (k s refl)
+  value_tells agrees s var None (Some n) is vs xs on k = saw_tells agrees s var n is vs xs (on (saw s var n)) (k (saw s var n) refl)
+  value_tells agrees s var None None is vs xs on k = ap (λ o. if_there o (Visit var) (first_open reads (length s.seen.left) xs)) is
 
   -- the visits of a footprint, seen in order
-  looked_tells : Agrees values reads → (vars : List ℕ) (s : RunState) → LookTells s (map (overlay values s.effect.writes) vars) (unwritten s.effect.writes vars) (looked reads vars s)
-  looked_tells agrees [] s = (refl, refl, refl)
-  looked_tells agrees (var ∷ vars) s =
-      look_tells agrees s var (look s.effect.writes var) (look reads var) refl (map (overlay values s.effect.writes) vars) (unwritten s.effect.writes vars) (looked reads vars)
-      (λ s' same. subst (λ e. LookTells s' (map (overlay values e.writes) vars) (unwritten e.writes vars) (looked reads vars s')) same (looked_tells agrees vars s'))
+  footprint_tells : Agrees values reads → (vars : List ℕ) (s : RunState) → LookTells s (map (overlay values s.effect.writes) vars) (unwritten s.effect.writes vars) (footprint_seen reads vars s)
+  footprint_tells agrees [] s = (refl, refl, refl)
+  footprint_tells agrees (var ∷ vars) s =
+      value_tells agrees s var (value_in s.effect.writes var) (value_in reads var) refl (map (overlay values s.effect.writes) vars) (unwritten s.effect.writes vars) (footprint_seen reads vars)
+      (λ s' same. subst (λ e. LookTells s' (map (overlay values e.writes) vars) (unwritten e.writes vars) (footprint_seen reads vars s')) same (footprint_tells agrees vars s'))
 
   -- and then the test
-  checked_tells : (tests : Meanings) (s : RunState) (name : List ℕ) (vs : List ℤ) (xs : List Ask) (l : Looked) → LookTells s vs xs l → Gave tests s.seen.left (xs ++ Probe name vs ∷ [])
+  checked_tells : (tests : Meanings) (s : RunState) (name : List ℕ) (vs : List ℤ) (xs : List Ask) (l : FootprintSeen) → LookTells s vs xs l → Gave tests s.seen.left (xs ++ Probe name vs ∷ [])
       → Tells s.seen (run.checked (tests.test name vs) (view_of values s) name) (xs ++ Probe name vs ∷ []) (eval_checked l name)
   checked_tells tests s name vs xs (Lacks var) t g = open_early reads (length s.seen.left) xs (Probe name vs ∷ []) (Visit var) t
   checked_tells tests s name vs xs (Found more s') t g =
@@ -234,7 +234,7 @@ module _ (reads : List (ℕ × ℤ)) (values : ℕ → ℤ) where
     mutual
       pub tells : (tx : Tx) (s : RunState) → Gave tests s.seen.left (asks steps tests tx (view_of values s)) → Tells s.seen (run steps tests tx (view_of values s)) (asks steps tests tx (view_of values s)) (eval steps tests.footprint reads tx s)
       tells (Seq' shape txs) s g = tells_all txs s g
-      tells (Read var reg) s g = read_tells agrees s var reg (look s.effect.writes var) (look reads var) refl refl
+      tells (Read var reg) s g = read_tells agrees s var reg (value_in s.effect.writes var) (value_in reads var) refl refl
       tells (Write var reg) s g = (ap (λ m. Normal (record { values = m; registers = s.registers; effect = record { writes = with_write s.effect.writes var (register s.registers reg); names = s.effect.names; retired = s.effect.retired } })) (sym (overlay-write values s.effect.writes var (register s.registers reg))), refl, refl)
       tells (Step index args out) s g = answered_tells (steps index (map (register s.registers) args.items)) s out
       tells (When' reg p a q b) s g = cond_tells tests (is_zero (register s.registers reg)) s.seen _ _ _ _ _ _ g (tells b s) (tells a s)
@@ -242,7 +242,7 @@ module _ (reads : List (ℕ × ℤ)) (values : ℕ → ℤ) where
           let view = view_of values s in
           let first = gave_first tests s.seen.left (asks steps tests a view) (else_ask (run steps tests a view) (asks steps tests b view)) g in
           else_tells tests s.seen _ _ _ _ _ (λ seen. eval steps tests.footprint reads b (record s { seen = seen })) g (tells a s first) (λ seen h. tells b (record s { seen = seen }) h)
-      tells (Check name) s g = checked_tells tests s name _ _ _ (looked_tells agrees (tests.footprint name) s) g
+      tells (Check name) s g = checked_tells tests s name _ _ _ (footprint_tells agrees (tests.footprint name) s) g
       tells tx s g = (refl, refl, refl)
 
       pub tells_all : {m : _} (txs : Row_of-Tx m) (s : RunState) → Gave tests s.seen.left (asks_all steps tests txs (view_of values s)) → Tells s.seen (run_all steps tests txs (view_of values s)) (asks_all steps tests txs (view_of values s)) (eval_all steps tests.footprint reads txs s)

@@ -2,7 +2,7 @@ mod CursorGave
 mod CursorKept
 mod CursorStands
 mod EvalFits
-mod EvalLooks
+mod EvalSights
 mod EvalParts
 mod EvalRuns
 mod EvalSeen

@@ -16,7 +16,7 @@ use Rattle.tmem_tree.specs.declared.shape.Shape.{Shape}
 use Rattle.tmem_tree.proofs.Laws.{has_shapes}
 use Rattle.tmem_tree.specs.Visited.{Visit}
 use Rattle.tmem_effect.specs.State.{no_effect}
-use Rattle.tmem_effect.specs.Writes.{look}
+use Rattle.tmem_effect.specs.Writes.{value_in}
 use Rattle.tmem_tentative.specs.Eval.{Flow, Stops, Retries, Leaves, Gives_up, Breaks, eval}
 use Rattle.tmem_tentative.specs.Ends.{start_state, ended_as, IsEndOf, IsMadeOf}
 use Rattle.tmem_tentative.specs.Fits.{IsFit, IsWithinVariables, IsNamed, IsFilled, IsBlankUnlessNormal, IsEndingFor}
@@ -78,7 +78,7 @@ nothing Q R U vars names w c r = record {
 }
 
 -- a value that is needed is one that the reads lack
-pub need_lacks : (m : StepMeanings) (footprint : List ℕ → List ℕ) (reads : List (ℕ × ℤ)) (tx : Tx) (answers : List Bool) (var : ℕ) → eval m footprint reads tx (start_state answers) ≡ Stops (Visit var) → look reads var ≡ None
+pub need_lacks : (m : StepMeanings) (footprint : List ℕ → List ℕ) (reads : List (ℕ × ℤ)) (tx : Tx) (answers : List Bool) (var : ℕ) → eval m footprint reads tx (start_state answers) ≡ Stops (Visit var) → value_in reads var ≡ None
 need_lacks m footprint reads tx answers var e =
     let g = good ⊥ ⊥ ⊥ 0 [] m footprint reads (λ q. absurd q) tx 0 0 0 (count is_write tx) (count is_check tx) (count is_retire tx) (start_state answers) (omega arith) (omega arith) (omega arith) (λ q. absurd q) (λ x. absurd x) (λ x. absurd x) (λ q. absurd q) (nothing ⊥ ⊥ ⊥ 0 [] 0 0 0) in
     (subst (IsGoodFlow ⊥ ⊥ ⊥ 0 [] m footprint reads (count is_write tx) (count is_check tx) (count is_retire tx)) e g).1

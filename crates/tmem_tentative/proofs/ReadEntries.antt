@@ -2,20 +2,20 @@
 use Rattle.std.proofs.Common.{◌≡◌, ℕ, ℤ, Bool, true, false, List, [], ◌∷◌, ◌++◌, Option, Some, nat_eq, cond, refl, sym, ap, ◌∙◌}
 use Rattle.std.proofs.lemmas.Bool.{eqb-true, eq-eqb}
 use Rattle.indexmap.specs.IndexMap.{insert_entry}
-use Rattle.tmem_effect.specs.Writes.{look, with_write}
+use Rattle.tmem_effect.specs.Writes.{value_in, with_write}
 use Rattle.tmem_tree.specs.Visited.{has, noted, each_once}
 use Rattle.tmem_tentative.specs.Right.{valued}
 
 -- not both: they are different variables
-swap_look : (a c : Bool) (x n : ℤ) (o : Option ℤ) → (a ≡ true → c ≡ true → ⊥) → cond a (Some x) (cond c (Some n) o) ≡ cond c (Some n) (cond a (Some x) o)
-swap_look true true x n o h = absurd (h refl refl)
-swap_look true false x n o h = refl
-swap_look false true x n o h = refl
-swap_look false false x n o h = refl
+swap_value : (a c : Bool) (x n : ℤ) (o : Option ℤ) → (a ≡ true → c ≡ true → ⊥) → cond a (Some x) (cond c (Some n) o) ≡ cond c (Some n) (cond a (Some x) o)
+swap_value true true x n o h = absurd (h refl refl)
+swap_value true false x n o h = refl
+swap_value false true x n o h = refl
+swap_value false false x n o h = refl
 
-twice_look : (c : Bool) (x n : ℤ) (o : Option ℤ) → cond c (Some n) o ≡ cond c (Some n) (cond c (Some x) o)
-twice_look true x n o = refl
-twice_look false x n o = refl
+twice_value : (c : Bool) (x n : ℤ) (o : Option ℤ) → cond c (Some n) o ≡ cond c (Some n) (cond c (Some x) o)
+twice_value true x n o = refl
+twice_value false x n o = refl
 
 -- a write is kept as an entry is inserted
 pub write_is_insert : (es : List (ℕ × ℤ)) (k : ℕ) (n : ℤ) → with_write es k n ≡ insert_entry nat_eq es k n
@@ -25,16 +25,16 @@ write_is_insert (e ∷ es) k n = on (nat_eq k e.0) refl (write_is_insert es k n)
   on true is same = ap (λ x. (x, n) ∷ es) (eqb-true k e.0 is)
   on false is same = ap (λ l. e ∷ l) same
 
--- a look at what was inserted
-pub look-insert : (es : List (ℕ × ℤ)) (k : ℕ) (n : ℤ) (v : ℕ) → look (insert_entry nat_eq es k n) v ≡ cond (nat_eq v k) (Some n) (look es v)
-look-insert [] k n v = refl
-look-insert (e ∷ es) k n v = on (nat_eq k e.0) refl (look-insert es k n v) where
-  on : (b : Bool) → nat_eq k e.0 ≡ b → look (insert_entry nat_eq es k n) v ≡ cond (nat_eq v k) (Some n) (look es v) → look (cond b ((e.0, n) ∷ es) (e ∷ insert_entry nat_eq es k n)) v ≡ cond (nat_eq v k) (Some n) (cond (nat_eq v e.0) (Some e.1) (look es v))
+-- the value of what was inserted
+pub value_in-insert : (es : List (ℕ × ℤ)) (k : ℕ) (n : ℤ) (v : ℕ) → value_in (insert_entry nat_eq es k n) v ≡ cond (nat_eq v k) (Some n) (value_in es v)
+value_in-insert [] k n v = refl
+value_in-insert (e ∷ es) k n v = on (nat_eq k e.0) refl (value_in-insert es k n v) where
+  on : (b : Bool) → nat_eq k e.0 ≡ b → value_in (insert_entry nat_eq es k n) v ≡ cond (nat_eq v k) (Some n) (value_in es v) → value_in (cond b ((e.0, n) ∷ es) (e ∷ insert_entry nat_eq es k n)) v ≡ cond (nat_eq v k) (Some n) (cond (nat_eq v e.0) (Some e.1) (value_in es v))
   on true is ih =
       let same : e.0 ≡ k = sym (eqb-true k e.0 is) in
-      ap (λ y. cond (nat_eq v y) (Some n) (look es v)) same ∙ twice_look (nat_eq v k) e.1 n (look es v) ∙ ap (λ y. cond (nat_eq v k) (Some n) (cond (nat_eq v y) (Some e.1) (look es v))) (sym same)
+      ap (λ y. cond (nat_eq v y) (Some n) (value_in es v)) same ∙ twice_value (nat_eq v k) e.1 n (value_in es v) ∙ ap (λ y. cond (nat_eq v k) (Some n) (cond (nat_eq v y) (Some e.1) (value_in es v))) (sym same)
   on false is ih =
-      ap (cond (nat_eq v e.0) (Some e.1)) ih ∙ swap_look (nat_eq v e.0) (nat_eq v k) e.1 n (look es v) (λ p q.
+      ap (cond (nat_eq v e.0) (Some e.1)) ih ∙ swap_value (nat_eq v e.0) (nat_eq v k) e.1 n (value_in es v) (λ p q.
       let same : k ≡ e.0 = sym (eqb-true v k q) ∙ eqb-true v e.0 p in
       let both : true ≡ false = sym (eq-eqb k e.0 same) ∙ is in
       cc)

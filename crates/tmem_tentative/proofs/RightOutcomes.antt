@@ -3,7 +3,7 @@ use Rattle.std.proofs.Common.{◌≡◌, ℕ, ℤ, Bool, true, false, List, [], 
 use Rattle.std.proofs.lemmas.Bool.{eqb-true, eq-eqb}
 use Rattle.indexmap.specs.IndexMap.{insert_entry}
 use Rattle.tmem_invariants.specs.Meanings.{Meanings}
-use Rattle.tmem_effect.specs.Writes.{look}
+use Rattle.tmem_effect.specs.Writes.{value_in}
 use Rattle.tmem_tree.specs.declared.tx.Tx.{Tx}
 use Rattle.tmem_tree.specs.StepAnswers.{StepMeanings}
 use Rattle.tmem_tree.specs.Run.{RunResult, Normal, Retried, Aborted, Broken, run, start}
@@ -19,7 +19,7 @@ use Rattle.tmem_tentative.specs.declared.attempt.Outcome.TheVariants.{Need, Ende
 use Rattle.tmem_tentative.specs.declared.attempt.Outcome.TheVariants as outcome
 use Rattle.tmem_tentative.specs.declared.attempt.Ending.{Ending}
 use Rattle.tmem_tentative.specs.declared.attempt.Ending.TheVariants as ending
-use Rattle.tmem_tentative.proofs.ReadEntries.{look-insert, note, note-valued}
+use Rattle.tmem_tentative.proofs.ReadEntries.{value_in-insert, note, note-valued}
 use Rattle.tmem_tentative.proofs.EvalRuns.{Tells, tells, overlay}
 use Rattle.tmem_tentative.proofs.RunVisits.{AgreeOn, EndLike, note_same, same}
 
@@ -48,10 +48,10 @@ module _ (v w : ℕ → ℤ) where
   ends_alike (Broken name) e' a like is = subst (λ d. EndsAs d a) (sym like) is
 
   -- a value that was noted stays
-  noted_stays : (vars : List ℕ) (es : List (ℕ × ℤ)) (var : ℕ) → look es var ≡ Some (v var) → look (note v es vars) var ≡ Some (v var)
+  noted_stays : (vars : List ℕ) (es : List (ℕ × ℤ)) (var : ℕ) → value_in es var ≡ Some (v var) → value_in (note v es vars) var ≡ Some (v var)
   noted_stays [] es var is = is
-  noted_stays (x ∷ vars) es var is = noted_stays vars (insert_entry nat_eq es x (v x)) var (look-insert es x (v x) var ∙ on (nat_eq var x) refl) where
-    on : (b : Bool) → nat_eq var x ≡ b → cond b (Some (v x)) (look es var) ≡ Some (v var)
+  noted_stays (x ∷ vars) es var is = noted_stays vars (insert_entry nat_eq es x (v x)) var (value_in-insert es x (v x) var ∙ on (nat_eq var x) refl) where
+    on : (b : Bool) → nat_eq var x ≡ b → cond b (Some (v x)) (value_in es var) ≡ Some (v var)
     on true same = ap (λ y. Some (v y)) (sym (eqb-true var x same))
     on false other = is
 
@@ -59,7 +59,7 @@ module _ (v w : ℕ → ℤ) where
   agree_on : (xs : List Ask) (es : List (ℕ × ℤ)) → Agrees w (note v es (visits_in xs)) → AgreeOn v w xs
   agree_on [] es agrees = tt
   agree_on (Visit var ∷ xs) es agrees =
-      let noted : look (insert_entry nat_eq es var (v var)) var ≡ Some (v var) = look-insert es var (v var) var ∙ ap (λ b. cond b (Some (v var)) (look es var)) (eq-eqb var var refl) in
+      let noted : value_in (insert_entry nat_eq es var (v var)) var ≡ Some (v var) = value_in-insert es var (v var) var ∙ ap (λ b. cond b (Some (v var)) (value_in es var)) (eq-eqb var var refl) in
       (sym (agrees var (v var) (noted_stays (visits_in xs) (insert_entry nat_eq es var (v var)) var noted)), agree_on xs (insert_entry nat_eq es var (v var)) agrees)
   agree_on (Probe name values ∷ xs) es agrees = agree_on xs es agrees
 

@@ -8,7 +8,7 @@ use Rattle.tmem_tree.specs.declared.tx.Tx.TheVariants.{Seq', Put, Read, Write, S
 use Rattle.tmem_tree.specs.declared.step.StepAnswer.{StepAnswer}
 use Rattle.tmem_tree.specs.declared.step.StepAnswer.TheVariants as answer
 use Rattle.tmem_tree.specs.StepAnswers.{StepMeanings}
-use Rattle.tmem_effect.specs.Writes.{look, with_write}
+use Rattle.tmem_effect.specs.Writes.{value_in, with_write}
 use Rattle.tmem_tree.specs.Run as run
 use Rattle.tmem_tree.specs.Run.{View, RunResult, Normal, Retried, Aborted, Broken, run, run_all, register, is_zero, then_run, or_else}
 use Rattle.tmem_tree.specs.Visited.{Ask, Visit, Probe, asks, asks_all, read_of, unwritten, then_ask, else_ask, visits_in}
@@ -41,8 +41,8 @@ module _ (v w : ℕ → ℤ) where
       note_same (insert_entry nat_eq es var (v var)) xs a.1 ∙ ap (λ n. note w (insert_entry nat_eq es var n) (visits_in xs)) a.0
   note_same es (Probe name values ∷ xs) a = note_same es xs a
 
-  read_same : (ws : List (ℕ × ℤ)) (var : ℕ) → AgreeOn (read_of (look ws var) var) → overlay v ws var ≡ overlay w ws var
-  read_same ws var a = on (look ws var) a where
+  read_same : (ws : List (ℕ × ℤ)) (var : ℕ) → AgreeOn (read_of (value_in ws var) var) → overlay v ws var ≡ overlay w ws var
+  read_same ws var a = on (value_in ws var) a where
     on : (o : Option ℤ) → AgreeOn (read_of o var) → unwrap_or o (v var) ≡ unwrap_or o (w var)
     on (Some n) a = refl
     on None a = a.0
@@ -50,8 +50,8 @@ module _ (v w : ℕ → ℤ) where
   values_same : (ws : List (ℕ × ℤ)) (vars : List ℕ) → AgreeOn (unwritten ws vars) → map (overlay v ws) vars ≡ map (overlay w ws) vars
   values_same ws [] a = refl
   values_same ws (var ∷ vars) a =
-      let first = agree_first (read_of (look ws var) var) (unwritten ws vars) a in
-      let rest = agree_rest (read_of (look ws var) var) (unwritten ws vars) a in
+      let first = agree_first (read_of (value_in ws var) var) (unwritten ws vars) a in
+      let rest = agree_rest (read_of (value_in ws var) var) (unwritten ws vars) a in
       ap (λ n. n ∷ map (overlay v ws) vars) (read_same ws var first) ∙ ap (λ l. overlay w ws var ∷ l) (values_same ws vars rest)
 
   -- a run on the one map and one on the other end alike

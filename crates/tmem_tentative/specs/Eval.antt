@@ -7,7 +7,7 @@ use Rattle.tmem_tree.specs.declared.step.StepAnswer.{StepAnswer}
 use Rattle.tmem_tree.specs.declared.step.StepAnswer.TheVariants as answer
 use Rattle.tmem_tree.specs.StepAnswers.{StepMeanings}
 use Rattle.tmem_effect.specs.Names.{with_name, without_name}
-use Rattle.tmem_effect.specs.Writes.{look, with_write}
+use Rattle.tmem_effect.specs.Writes.{value_in, with_write}
 use Rattle.tmem_effect.specs.declared.effect.Effect.{Effect}
 use Rattle.tmem_tree.specs.Run.{is_zero, register}
 use Rattle.tmem_tree.specs.Visited.{Ask, Visit, Probe}
@@ -89,23 +89,23 @@ eval_answered answer.Retry s out = Retries s.seen
 eval_answered (answer.Abort code) s out = Leaves (Gives_up code) s.seen
 
 -- the values of a footprint, and the state that saw those of them that it did not write; or the first variable that the map lacks
-pub data Looked : Type 0 where
-  Lacks : (var : ℕ) → Looked
-  Found : (values : List ℤ) (s : RunState) → Looked
+pub data FootprintSeen : Type 0 where
+  Lacks : (var : ℕ) → FootprintSeen
+  Found : (values : List ℤ) (s : RunState) → FootprintSeen
 
 -- with one value more before the others
-abbrev pub before : ℤ → Looked → Looked
+abbrev pub before : ℤ → FootprintSeen → FootprintSeen
 before n (Lacks var) = Lacks var
 before n (Found values s) = Found (n ∷ values) s
 
-abbrev pub look_first : Option ℤ → Option ℤ → RunState → ℕ → (RunState → Looked) → Looked
-look_first (Some n) value s var rest = before n (rest s)
-look_first None (Some n) s var rest = before n (rest (saw s var n))
-look_first None None s var rest = Lacks var
+abbrev pub see_first : Option ℤ → Option ℤ → RunState → ℕ → (RunState → FootprintSeen) → FootprintSeen
+see_first (Some n) value s var rest = before n (rest s)
+see_first None (Some n) s var rest = before n (rest (saw s var n))
+see_first None None s var rest = Lacks var
 
-abbrev pub looked : List (ℕ × ℤ) → List ℕ → RunState → Looked
-looked reads [] s = Found [] s
-looked reads (var ∷ vars) s = look_first (look s.effect.writes var) (look reads var) s var (looked reads vars)
+abbrev pub footprint_seen : List (ℕ × ℤ) → List ℕ → RunState → FootprintSeen
+footprint_seen reads [] s = Found [] s
+footprint_seen reads (var ∷ vars) s = see_first (value_in s.effect.writes var) (value_in reads var) s var (footprint_seen reads vars)
 
 -- an invariant on these values: the next answer says whether it holds, and is used; with none left the run asks
 abbrev pub tested : List Bool → List ℕ → List ℤ → RunState → Flow
@@ -113,7 +113,7 @@ tested [] name values s = Stops (Probe name values)
 tested (true ∷ left) name values s = Goes (eval_check (used s left) name)
 tested (false ∷ left) name values s = Leaves (Breaks name) (used s left).seen
 
-abbrev pub eval_checked : Looked → List ℕ → Flow
+abbrev pub eval_checked : FootprintSeen → List ℕ → Flow
 eval_checked (Lacks var) name = Stops (Visit var)
 eval_checked (Found values s) name = tested s.seen.left name values s
 
@@ -136,7 +136,7 @@ module _ (steps : StepMeanings) (footprint : List ℕ → List ℕ) (reads : Lis
     eval Skip s = Goes s
     eval (Seq' shape txs) s = eval_all txs s
     eval (Put reg number) s = Goes (eval_put s reg number)
-    eval (Read var reg) s = read (look s.effect.writes var) (look reads var) s var reg
+    eval (Read var reg) s = read (value_in s.effect.writes var) (value_in reads var) s var reg
     eval (Write var reg) s = Goes (eval_write s var (register s.registers reg))
     eval (Step index args out) s = eval_answered (steps index (map (register s.registers) args.items)) s out
     eval (When' reg p a q b) s = if is_zero (register s.registers reg) then eval b s else eval a s
@@ -144,7 +144,7 @@ module _ (steps : StepMeanings) (footprint : List ℕ → List ℕ) (reads : Lis
     eval (OrElse' p a q b) s = else_eval (eval a s) (λ seen. eval b (record s { seen = seen }))
     eval Retry s = Retries s.seen
     eval (Abort code) s = Leaves (Gives_up code) s.seen
-    eval (Check name) s = eval_checked (looked reads (footprint name) s) name
+    eval (Check name) s = eval_checked (footprint_seen reads (footprint name) s) name
     eval (Retire name) s = Goes (eval_retire s name)
 
     pub eval_all : {m : _} → Row_of-Tx m → RunState → Flow

@@ -3,7 +3,7 @@ use Rattle.std.specs.Prelude.{◌≡◌, ⊤, ℕ, ℤ, ◌<◌, ◌≤◌, true
 use Rattle.std.specs.List.{IsDistinct}
 use Rattle.std.specs.Map.{keys_of}
 use Rattle.tmem_effect.specs.Names.{has_name, AreApart}
-use Rattle.tmem_effect.specs.Writes.{look}
+use Rattle.tmem_effect.specs.Writes.{value_in}
 use Rattle.tmem_effect.specs.declared.effect.Effect.{Effect}
 use Rattle.tmem_tree.specs.declared.shape.Shape.{Shape}
 use Rattle.tmem_tree.specs.Shapes.{names_of, footprint_in}
@@ -31,7 +31,7 @@ IsBlankUnlessNormal (Broken name) a = IsBlank a
 
 -- a variable that the reads lack, a test, or an attempt whose effect a plan may have
 abbrev pub IsFit : List (ℕ × ℤ) → Outcome → Type 0
-IsFit reads (Need var) = look reads var ≡ None
+IsFit reads (Need var) = value_in reads var ≡ None
 IsFit reads (outcome.Probe probe) = ⊤
 IsFit reads (Ended a) = IsPlansEffect a.effect × IsBlankUnlessNormal a.ending a
 

@@ -15,7 +15,7 @@ use Rattle.tmem_tentative.specs.declared.attempt.Probe.{Probe as Asked}
 use Rattle.tmem_tentative.specs.declared.flow.Flow.{Flow}
 use Rattle.tmem_tentative.specs.declared.flow.Flow.TheVariants.{Normal, Need, Test, Retry, Leave}
 use Rattle.tmem_tentative.specs.Eval as eval
-use Rattle.tmem_tentative.specs.Eval.{RunState, Taken, Leaving, Gives_up, Breaks, Goes, Stops, Retries, Leaves, Looked, Lacks, Found}
+use Rattle.tmem_tentative.specs.Eval.{RunState, Taken, Leaving, Gives_up, Breaks, Goes, Stops, Retries, Leaves, FootprintSeen, Lacks, Found}
 
 -- a log, with these answers left
 abbrev pub taken_of : Attempt → List Bool → Taken
@@ -58,10 +58,10 @@ out_of Test log probe = Stopped (Probe probe.name probe.values)
 out_of Retry log probe = Gave_way
 out_of Leave log probe = Left (left_for log.ending)
 
--- how a look at a footprint has come out: at a variable that is lacking, or with these values
-abbrev pub looked_at : Option ℕ → List ℤ → RunState → Looked
-looked_at (Some var) values s = Lacks var
-looked_at None values s = Found values s
+-- what is seen of a footprint: that a variable is lacking, or these values
+abbrev pub footprint_seen_as : Option ℕ → List ℤ → RunState → FootprintSeen
+footprint_seen_as (Some var) values s = Lacks var
+footprint_seen_as None values s = Found values s
 
 -- these are the footprints of the shapes, for each name that those have
 abbrev pub AreOf : List Shape → (List ℕ → List ℕ) → Type 0

@@ -4,7 +4,7 @@ use Rattle.indexmap.specs.IndexMap.{insert_entry}
 use Rattle.tmem_tree.specs.declared.tx.Tx.{Tx, Row_of-Tx, end_of-Tx, more_of-Tx}
 use Rattle.tmem_tree.specs.declared.tx.Tx.TheVariants.{Seq', When', OrElse'}
 use Rattle.tmem_tree.specs.StepAnswers.{StepMeanings}
-use Rattle.tmem_effect.specs.Writes.{look}
+use Rattle.tmem_effect.specs.Writes.{value_in}
 use Rattle.tmem_effect.specs.declared.effect.Effect.{Effect}
 use Rattle.tmem_tree.specs.Limits.{depth, choices, count, count_all, is_write, is_check, is_retire, has_bad_register}
 use Rattle.tmem_tree.specs.Plans.{FitsSteps, HasShapes}
@@ -76,7 +76,7 @@ RetiresFit rest path tx saves effect =
 
 -- the reads have all that was seen
 pub record Covers (reads seen : List (ℕ × ℤ)) : Type 0 where
-  pub at : (v : ℕ) (n : ℤ) → look seen v ≡ Some n → look reads v ≡ Some n
+  pub at : (v : ℕ) (n : ℤ) → value_in seen v ≡ Some n → value_in reads v ≡ Some n
 
 -- where a run stands in a tree, what it saw aside
 pub record Place : Type 0 where

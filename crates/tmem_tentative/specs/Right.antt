@@ -3,7 +3,7 @@ use Rattle.std.specs.Prelude.{◌≡◌, ⊤, ℕ, zero, suc, ℤ, Bool, List, [
 use Rattle.tmem_tree.specs.declared.tx.Tx.{Tx}
 use Rattle.tmem_tree.specs.StepAnswers.{StepMeanings}
 use Rattle.tmem_effect.specs.State.{no_effect}
-use Rattle.tmem_effect.specs.Writes.{look}
+use Rattle.tmem_effect.specs.Writes.{value_in}
 use Rattle.tmem_tree.specs.Run as run
 use Rattle.tmem_tree.specs.Run.{run, start, no_registers}
 use Rattle.tmem_invariants.specs.Meanings.{Meanings}
@@ -16,7 +16,7 @@ use Rattle.tmem_tentative.specs.declared.attempt.Ending.TheVariants.{Normal, Ret
 
 -- the map has each value that was read
 abbrev pub Agrees : (ℕ → ℤ) → List (ℕ × ℤ) → Type 0
-Agrees values reads = (var : ℕ) (n : ℤ) → look reads var ≡ Some n → values var ≡ n
+Agrees values reads = (var : ℕ) (n : ℤ) → value_in reads var ≡ Some n → values var ≡ n
 
 abbrev pub if_there : Option ℤ → Ask → Option Ask → Option Ask
 if_there (Some n) ask later = later
@@ -25,7 +25,7 @@ if_there None ask later = Some ask
 -- the first that is open: a variable that the reads lack, or the test behind so many that were answered
 abbrev pub first_open : List (ℕ × ℤ) → ℕ → List Ask → Option Ask
 first_open reads n [] = None
-first_open reads n (Visit var ∷ more) = if_there (look reads var) (Visit var) (first_open reads n more)
+first_open reads n (Visit var ∷ more) = if_there (value_in reads var) (Visit var) (first_open reads n more)
 first_open reads zero (Probe name values ∷ more) = Some (Probe name values)
 first_open reads (suc n) (Probe name values ∷ more) = first_open reads n more
 

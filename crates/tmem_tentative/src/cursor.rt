@@ -38,7 +38,7 @@ pub(crate) enum Stage {
 }
 
 /// An evaluation of a plan that goes on where it stopped. It keeps its place in the tree, its memory, and what it was given and
-/// answered, and takes no step twice but the look at a footprint. The plan and the steps are handed in at each call, and are to be
+/// answered, and takes no step twice, but sees a footprint anew. The plan and the steps are handed in at each call, and are to be
 /// those that it began with: `StandsIn` in `specs/` says so, of a plan and of what the steps mean. `IsAt` says besides that the
 /// answers are those of the tests that the names mean.
 pub struct Cursor {

@@ -5,14 +5,14 @@ ghost use Rattle.std.specs.List.{list_any};
 ghost use Rattle.std.specs.Option.{option_to_list};
 ghost use Rattle.tmem_tree.specs.StepAnswers.{StepMeanings};
 ghost use Rattle.tmem_effect.specs.Names.{has_name};
-ghost use Rattle.tmem_effect.specs.Writes.{look};
+ghost use Rattle.tmem_effect.specs.Writes.{value_in};
 ghost use Rattle.tmem_tree.specs.Limits.{count, is_write, is_check, is_retire, is_no_register};
 ghost use Rattle.tmem_tree.specs.Run.{register};
 ghost use Rattle.tmem_tree.specs.Shapes.{names_of, footprint_in};
-ghost use Rattle.tmem_tentative.specs.Eval.{eval, read, eval_answered, seen_of, noted_of, looked, eval_checked, tested};
+ghost use Rattle.tmem_tentative.specs.Eval.{eval, read, eval_answered, seen_of, noted_of, footprint_seen, eval_checked, tested};
 ghost use Rattle.tmem_tentative.specs.declared.attempt.Probe.{Probe as Asked};
 ghost use Rattle.tmem_tentative.specs.Places.{IsLeaf};
-ghost use Rattle.tmem_tentative.specs.Logs.{AreOf, MayWalk, IsLeaving, run_state_of, flow_at, out_of, looked_at};
+ghost use Rattle.tmem_tentative.specs.Logs.{AreOf, MayWalk, IsLeaving, run_state_of, flow_at, out_of, footprint_seen_as};
 
 use crate::attempt::{Attempt, Ending, Probe, Reads, Values};
 use crate::flow::Flow;
@@ -179,11 +179,11 @@ fn forget(log: &mut Attempt, registers: [i64; REGISTERS], effect: &Effect)
 }
 
 // A Read of one variable.
-#[tactic(auto, using(crate::proofs::EvalLooks::read_on_seen))]
+#[tactic(auto, using(crate::proofs::EvalSights::read_on_seen))]
 fn read(reads: &Reads, log: &mut Attempt, var: u16, reg: u8) -> Result<Flow, Fault>
     requires { reg < 16 }
     ensures effect { log.new.effect ≡ log.old.effect }
-    ensures flow { (left : List Bool) (probe : Asked) → IfOk result (λ flow. flow_at (out_of flow log.new probe) (run_state_of log.new left) ≡ read (look log.old.effect.writes var) (look reads.now.entries var) (run_state_of log.old left) var reg) }
+    ensures flow { (left : List Bool) (probe : Asked) → IfOk result (λ flow. flow_at (out_of flow log.new probe) (run_state_of log.new left) ≡ read (value_in log.old.effect.writes var) (value_in reads.now.entries var) (run_state_of log.old left) var reg) }
     ensures leaves_none { result ≡ Ok Flow.Leave → ⊥ }
     ensures fault { IfErr result (λ fault. fault ≡ Fault.Memory) }
 {
@@ -200,8 +200,8 @@ fn read(reads: &Reads, log: &mut Attempt, var: u16, reg: u8) -> Result<Flow, Fau
 fn see(reads: &Reads, log: &mut Attempt, var: u16) -> Result<Option<i64>, Fault>
     ensures effect { log.new.effect ≡ log.old.effect }
     ensures ending { log.new.ending ≡ log.old.ending }
-    ensures value { IfOk result (λ value. value ≡ seen_of (look log.old.effect.writes var) (look reads.now.entries var)) }
-    ensures state { (left : List Bool) → IfOk result (λ _. run_state_of log.new left ≡ noted_of (look log.old.effect.writes var) (look reads.now.entries var) (run_state_of log.old left) var) }
+    ensures value { IfOk result (λ value. value ≡ seen_of (value_in log.old.effect.writes var) (value_in reads.now.entries var)) }
+    ensures state { (left : List Bool) → IfOk result (λ _. run_state_of log.new left ≡ noted_of (value_in log.old.effect.writes var) (value_in reads.now.entries var) (run_state_of log.old left) var) }
     ensures fault { IfErr result (λ fault. fault ≡ Fault.Memory) }
 {
     let own = log.effect.writes.get(var);
@@ -224,7 +224,7 @@ fn check(given: &Given, log: &mut Attempt, tests: &mut Tests, name: &Name) -> Re
     ensures names { length log.new.effect.names ≤ length log.old.effect.names + 1 }
     ensures retired { length log.new.effect.retired ≤ length log.old.effect.retired }
     ensures flow { IfOk result (λ flow. flow_at (out_of flow log.new tests.new.probe) (run_state_of log.new (drop tests.new.used given.now.answers.now))
-        ≡ eval_checked (looked given.now.reads.now.entries (footprint_in given.now.shapes.now name.now) (run_state_of log.old (drop tests.old.used given.now.answers.now))) name.now) }
+        ≡ eval_checked (footprint_seen given.now.reads.now.entries (footprint_in given.now.shapes.now name.now) (run_state_of log.old (drop tests.old.used given.now.answers.now))) name.now) }
     ensures leaves { result ≡ Ok Flow.Leave → IsLeaving log.new.ending }
     ensures fault { IfErr result (λ fault. fault ≡ Fault.Memory) }
 {
@@ -249,7 +249,7 @@ fn see_all(
 ) -> Result<Option<u16>, Fault>
     requires { length vars.now ≤ 16 }
     ensures effect { log.new.effect ≡ log.old.effect }
-    ensures seen { (left : List Bool) → IfOk result (λ lacking. looked_at lacking into.new (run_state_of log.new left) ≡ looked reads.now.entries vars.now (run_state_of log.old left)) }
+    ensures seen { (left : List Bool) → IfOk result (λ lacking. footprint_seen_as lacking into.new (run_state_of log.new left) ≡ footprint_seen reads.now.entries vars.now (run_state_of log.old left)) }
     ensures fault { IfErr result (λ fault. fault ≡ Fault.Memory) }
 {
     into.clear();

@@ -3,7 +3,7 @@
 ghost use Rattle.std.specs.Prelude.{◌≡◌, ◌↔◌, ℕ, ℤ, ◌+◌, ◌<◌, ◌≤◌, Bool, true, List, [], None, length, drop, option_to_list, IsTrue, if◌then◌else◌};
 ghost use Rattle.std.specs.List.{list_any};
 ghost use Rattle.tmem_tree.specs.StepAnswers.{StepMeanings};
-ghost use Rattle.tmem_effect.specs.Writes.{look};
+ghost use Rattle.tmem_effect.specs.Writes.{value_in};
 ghost use Rattle.tmem_effect.specs.declared.effect.Effect.{Effect};
 ghost use Rattle.tmem_tree.specs.Limits.{count, is_write, is_check, is_retire};
 ghost use Rattle.tmem_effect.specs.Names.{has_name};
@@ -12,8 +12,8 @@ ghost use Rattle.tmem_tree.specs.Shapes.{footprint_in, names_of};
 ghost use Rattle.tmem_tree.specs.Visited.{Ask};
 ghost use Rattle.tmem_tentative.specs.declared.attempt.Probe.{Probe as Asked};
 ghost use Rattle.tmem_tentative.specs.declared.save.Save.{Save};
-ghost use Rattle.tmem_tentative.specs.Eval.{looked, seen_of};
-ghost use Rattle.tmem_tentative.specs.Logs.{MayWalk, AreOf, IsLeaving, Stopped, run_state_of, flow_at, out_of, looked_at};
+ghost use Rattle.tmem_tentative.specs.Eval.{footprint_seen, seen_of};
+ghost use Rattle.tmem_tentative.specs.Logs.{MayWalk, AreOf, IsLeaving, Stopped, run_state_of, flow_at, out_of, footprint_seen_as};
 ghost use Rattle.tmem_tentative.specs.Places.{MayRunFrom, RunsTo, IsPathBehind, LeadsTo, place_of, place_at, taken_at, out_at, with_child, Enters, EntersChoice, IsLeaf, read_seen};
 
 use crate::attempt::{Attempt, Ending, Reads, Values};
@@ -236,7 +236,7 @@ fn read(log: &mut Attempt, var: u16, reg: u8) -> Flow
     ensures reads { log.new.reads ≡ log.old.reads }
     ensures stays { (ask : Ask) (probe : Asked) → out_of result log.new probe ≡ Stopped ask → log.new ≡ log.old }
     ensures leaves_none { result ≡ Flow.Leave → ⊥ }
-    ensures flow { (left : List Bool) (probe : Asked) → flow_at (out_of result log.new probe) (run_state_of log.new left) ≡ read_seen (look log.old.effect.writes var) (look log.old.reads.entries var) (run_state_of log.old left) var reg }
+    ensures flow { (left : List Bool) (probe : Asked) → flow_at (out_of result log.new probe) (run_state_of log.new left) ≡ read_seen (value_in log.old.effect.writes var) (value_in log.old.reads.entries var) (run_state_of log.old left) var reg }
 {
     if let Some(number) = log.effect.writes.get(var) {
         log.registers[reg as usize] = number;
@@ -255,7 +255,7 @@ fn read(log: &mut Attempt, var: u16, reg: u8) -> Flow
 // nothing is looked up in the map.
 #[inline(always)]
 fn value_read(reads: &Reads, var: u16) -> Option<i64>
-    ensures { result ≡ look reads.now.entries var }
+    ensures { result ≡ value_in reads.now.entries var }
 {
     let (last, value) = reads.get_index(reads.len().saturating_sub(1))?;
     if *last == var {
@@ -264,7 +264,7 @@ fn value_read(reads: &Reads, var: u16) -> Option<i64>
     reads.get(&var).copied()
 }
 
-// A Check of one invariant, in a frame of its own: few runs have one. Its footprint is looked at anew at each call, until its test is
+// A Check of one invariant, in a frame of its own: few runs have one. Its footprint is seen anew at each call, until its test is
 // answered.
 #[inline(never)]
 fn check(name: &Name, plan: &Plan, course: &mut Course) -> Flow
@@ -282,7 +282,7 @@ fn check(name: &Name, plan: &Plan, course: &mut Course) -> Flow
 {
     course.probe.name = *name;
     let vars = footprint_of(plan.shapes(), name);
-    if let Some(lacking) = look_all(&course.attempt, vars, &mut course.probe.values) {
+    if let Some(lacking) = see_given(&course.attempt, vars, &mut course.probe.values) {
         return Flow::Need(lacking);
     }
     let held = course.pending.take();
@@ -291,9 +291,9 @@ fn check(name: &Name, plan: &Plan, course: &mut Course) -> Flow
 
 // Puts the values of a footprint into a list, as the transaction sees them: its own write of a variable, or else the value that was
 // given. Or it answers the first variable that is neither written nor given.
-fn look_all(log: &Attempt, vars: &[u16], into: &mut Values) -> Option<u16>
+fn see_given(log: &Attempt, vars: &[u16], into: &mut Values) -> Option<u16>
     requires { length vars.now ≤ 16 }
-    ensures { (left : List Bool) → looked log.now.reads.entries vars.now (run_state_of log.now left) ≡ looked_at result into.new (run_state_of log.now left) }
+    ensures { (left : List Bool) → footprint_seen log.now.reads.entries vars.now (run_state_of log.now left) ≡ footprint_seen_as result into.new (run_state_of log.now left) }
 {
     into.clear();
     for var in vars {
@@ -307,7 +307,7 @@ fn look_all(log: &Attempt, vars: &[u16], into: &mut Values) -> Option<u16>
 
 // What the transaction sees of one variable.
 fn value_seen(log: &Attempt, var: u16) -> Option<i64>
-    ensures { result ≡ seen_of (look log.now.effect.writes var) (look log.now.reads.entries var) }
+    ensures { result ≡ seen_of (value_in log.now.effect.writes var) (value_in log.now.reads.entries var) }
 {
     match log.effect.writes.get(var) {
         Some(number) => Some(number),

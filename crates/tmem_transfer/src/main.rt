@@ -3,7 +3,7 @@
 
 ghost use Rattle.std.specs.Prelude.{◌≡◌, length, IfOk};
 ghost use Rattle.tmem_transfer.specs.Accounts.{add_up_to_zero, reply_or_fault};
-ghost use Rattle.tmem_world.specs.Represents.{numbers_of, HoldsSession};
+ghost use Rattle.tmem_world.specs.Represents.{numbers_of, HasCore};
 
 use std::alloc::Global;
 use tmem_disk::{Disk, SimDisk};
@@ -164,7 +164,7 @@ fn reply_or_fault(reply: Reply) -> Result<Reply, Fault>
 fn accounts<D: Disk + Drop, T: Invariants + Drop, S: StoredSteps + Drop>(
     world: &World<D, T, S>,
 ) -> (i64, i64)
-    requires open { HoldsSession world.now }
+    requires open { HasCore world.now }
     requires two { (numbers_of world.now).vars ≡ 2 }
 {
     (world.value(0), world.value(1))

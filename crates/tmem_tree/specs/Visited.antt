@@ -6,7 +6,7 @@ use Rattle.tmem_tree.specs.declared.tx.Tx.{Tx, Row_of-Tx, end_of-Tx, more_of-Tx}
 use Rattle.tmem_tree.specs.declared.tx.Tx.TheVariants.{Skip, Seq', Put, Read, Write, Step, When', OrElse', Retry, Abort, Check, Retire}
 use Rattle.tmem_tree.specs.StepAnswers.{StepMeanings}
 use Rattle.tmem_invariants.specs.Meanings.{Meanings}
-use Rattle.tmem_effect.specs.Writes.{look}
+use Rattle.tmem_effect.specs.Writes.{value_in}
 use Rattle.tmem_tree.specs.Run.{View, RunResult, Normal, Retried, Aborted, Broken, run, start, is_zero, register}
 
 -- a variable is visited; or the invariant of this name is tested on these values of its footprint
@@ -22,7 +22,7 @@ read_of None var = Visit var ∷ []
 -- those of a footprint that the transaction did not write
 abbrev pub unwritten : List (ℕ × ℤ) → List ℕ → List Ask
 unwritten writes [] = []
-unwritten writes (var ∷ vars) = read_of (look writes var) var ++ unwritten writes vars
+unwritten writes (var ∷ vars) = read_of (value_in writes var) var ++ unwritten writes vars
 
 -- what is asked next, where a run ended normally
 abbrev pub then_ask : RunResult → (View → List Ask) → List Ask
@@ -46,7 +46,7 @@ module _ (steps : StepMeanings) (tests : Meanings) where
     asks Skip view = []
     asks (Seq' shape txs) view = asks_all txs view
     asks (Put reg number) view = []
-    asks (Read var reg) view = read_of (look view.effect.writes var) var
+    asks (Read var reg) view = read_of (value_in view.effect.writes var) var
     asks (Write var reg) view = []
     asks (Step index args out) view = []
     asks (When' reg p a q b) view = if is_zero (register view.registers reg) then asks b view else asks a view

@@ -31,14 +31,14 @@ use Rattle.tmem_world.specs.declared.world.World.{World}
 use Rattle.tmem_world.specs.AnyDevice.{Reopens}
 use Rattle.tmem_world.specs.WorldModel.{WorldModel, Open, Gone, opening, present}
 use Rattle.tmem_world.specs.EachPlayed.{IsAnswered}
-use Rattle.tmem_world.specs.Represents.{Represents, Means, HasSession, KeepsSetting, IsStep, EachMoment, RepresentsCut, setting_of, held_of, world_view}
+use Rattle.tmem_world.specs.Represents.{Represents, Means, HeldIs, KeepsSetting, IsStep, EachMoment, RepresentsCut, setting_of, held_of, world_view}
 use Rattle.tmem_world.specs.Chain.{ChainHistory, IsSafePrefix, IsSafe, IsStore, GoesOn, Carries, no_history, state_at, history_after, history_found, OpensStore, FindsIn, StepsOn}
 use Rattle.tmem_world.proofs.Laws.{means_stay, rests_on, runs_on-one, grows, count_at}
 use Rattle.tmem_world.proofs.Prefixes.{safe-prop, goes_on_from, mended_safe, point_safe, carries}
 use Rattle.tmem_world.proofs.Histories.{moves, goes_on_next}
 
--- a session is at one position, with one present state
-same_place : {D T : Type 0} {d t : _} (program : Program) (h : Held D T d t) (m x : WorldModel) → HasSession program h m → HasSession program h x → x.session ≡ Open → (x.position ≡ m.position) × (present program x ≡ present program m)
+-- a core and a journal are at one position, with one present state
+same_place : {D T : Type 0} {d t : _} (program : Program) (h : Held D T d t) (m x : WorldModel) → HeldIs program h m → HeldIs program h x → x.status ≡ Open → (x.position ≡ m.position) × (present program x ≡ present program m)
 same_place program (With o) m x at now is = (sym now.position ∙ at.position, sym now.state ∙ at.state)
 same_place program (Without left) m x at now is = absurd (not_open (sym now ∙ is))
   where
@@ -49,7 +49,7 @@ module _ {D T S : Type 0} {d t s : _} (w w' : World D T S d t s) (kept : KeepsSe
   -- what a Reopen found is at the position of what a read gave
   finds_in : (e : Event) (r : Reply) → Reopens w e r w' → FindsIn (setting_of w program) (world_view w).seen e r m
   finds_in event.Reopen (reply.Opened n) it =
-      let same = same_place program (held_of w') m (opening it.0 it.1 (world_view w).failures) at.session (it.3 program means).session refl in
+      let same = same_place program (held_of w') m (opening it.0 it.1 (world_view w).failures) at.held (it.3 program means).held refl in
       subst (λ (p : Position). IsFoundAt w.layout.vars w.layout.slots (world_view w).seen (present program m) p) same.0
       (subst (λ (x : State). IsFoundAt w.layout.vars w.layout.slots (world_view w).seen x it.1) same.1
       (subst (λ (l : Layout). IsFoundAt l.vars l.slots (world_view w).seen it.0 it.1) kept.numbers (it.4 keeps).was))

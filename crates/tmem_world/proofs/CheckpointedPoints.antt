@@ -15,13 +15,13 @@ use Rattle.tmem_journal.specs.Held as journal
 use Rattle.tmem_journal.specs.Journals as journals
 use Rattle.tmem_journal.specs.Contents.{Position, next_image, ContentRepresentsState}
 use Rattle.tmem_journal.specs.declared.journal.Journal as owner
-use Rattle.tmem_world.specs.declared.session.Session as core
+use Rattle.tmem_world.specs.declared.core_and_journal.CoreAndJournal as core
 use Rattle.tmem_world.specs.declared.held.Held.TheVariants.{With}
 use Rattle.tmem_world.specs.declared.world.World.{World}
-use Rattle.tmem_world.specs.WorldModel.{WorldModel, SessionStatus, Open, Closed, cut, AllowsNextImage, AllowsCheckpoint}
-use Rattle.tmem_world.specs.Represents.{SessionIs, Represents, held_of, session_of}
-use Rattle.tmem_world.specs.Sessions.{SessionCheckpoints, CallsDevice}
-use Rattle.tmem_world.proofs.Points.{session_at, point_at, refused_at}
+use Rattle.tmem_world.specs.WorldModel.{WorldModel, CoreStatus, Open, Closed, cut, AllowsNextImage, AllowsCheckpoint}
+use Rattle.tmem_world.specs.Represents.{BothAre, Represents, held_of, core_status}
+use Rattle.tmem_world.specs.CoresAndJournals.{CheckpointsBoth, CallsDevice}
+use Rattle.tmem_world.proofs.Points.{both_at, point_at, refused_at}
 use Rattle.tmem_world.proofs.FlushedPoints.{at_true, at_false}
 
 -- which reply a checkpoint's answer is
@@ -29,50 +29,50 @@ abbrev pub checkpoint_reply : Result (Unit {0}) Fault → Reply
 checkpoint_reply (Ok _) = reply.Checkpointed
 checkpoint_reply (Err f) = reply.Fault f
 
-module _ {D T S : Type 0} {d t z : _} (program : Program) (w w' : World D T S d t z) (m : WorldModel) (o o' : core.Session D T d t) (r : Represents program w m)
+module _ {D T S : Type 0} {d t z : _} (program : Program) (w w' : World D T S d t z) (m : WorldModel) (o o' : core.CoreAndJournal D T d t) (r : Represents program w m)
     (before : held_of w ≡ With o) (after : held_of w' ≡ With o') (attempts : w'.attempts.items ≡ w.attempts.items) where
   abbrev Next : Reply → Type 0
-  Next x = (m' : WorldModel) × AllowsCheckpoint m.session m x m' × Represents program w' m'
+  Next x = (m' : WorldModel) × AllowsCheckpoint m.status m x m' × Represents program w' m'
 
-  was : SessionIs program o m
-  was = session_at program w m o before r
+  was : BothAre program o m
+  was = both_at program w m o before r
 
   generation : (journal.journal_position o.journal).generation ≡ m.position.generation
   generation = ap (λ (p : Position). p.generation) was.position
 
   module _ (state : core_state o'.core ≡ core_state o.core) (waits : waiting_of o'.core ≡ waiting_of o.core) where
-    -- a session that was open, and below the last generation
-    made : (x : Reply) (moved : Position → Position) (shut : Bool) (status : SessionStatus) (failed : ℕ → ℕ) → (has : journals.HasGeneration o.journal) → journals.IsJournalAt o'.journal (journal.journal_state o.journal) (journal.journal_state o.journal) (moved (journal.journal_position o.journal)) shut
-        → (journal.journal_device o'.journal).failures ≡ failed (journal.journal_device o.journal).failures → (m.session ≡ Open → status ≡ session_of shut) → AllowsNextImage m x (record m { position = moved m.position; session = status; failures = failed m.failures }) → Next x
+    -- a core that was open, and below the last generation
+    made : (x : Reply) (moved : Position → Position) (shut : Bool) (status : CoreStatus) (failed : ℕ → ℕ) → (has : journals.HasGeneration o.journal) → journals.IsJournalAt o'.journal (journal.journal_state o.journal) (journal.journal_state o.journal) (moved (journal.journal_position o.journal)) shut
+        → (journal.journal_device o'.journal).failures ≡ failed (journal.journal_device o.journal).failures → (m.status ≡ Open → status ≡ core_status shut) → AllowsNextImage m x (record m { position = moved m.position; status = status; failures = failed m.failures }) → Next x
     made x moved shut status failed has at failures is allowed =
         let running : is_shut_of o.core ≡ false = o.shut ∙ has.running in
-        let is_open : m.session ≡ Open = was.status ∙ ap session_of running in
+        let is_open : m.status ≡ Open = was.status ∙ ap core_status running in
         let certain : m.doubtful ≡ m.durable = was.certain running in
-        let m' : WorldModel = record m { position = moved m.position; session = status; failures = failed m.failures } in
+        let m' : WorldModel = record m { position = moved m.position; status = status; failures = failed m.failures } in
         let less : m.position.generation + 1 < 2 ^ 64 = omega (arith, has.left, generation) in
         let test : nat_eq (m.position.generation + 1) (2 ^ 64) ≡ false = grind (arith, nat_tests) in (
           m',
-          subst (λ (y : SessionStatus). AllowsCheckpoint y m x m') (sym is_open) (at_false (nat_eq (m.position.generation + 1) (2 ^ 64)) _ _ test allowed),
+          subst (λ (y : CoreStatus). AllowsCheckpoint y m x m') (sym is_open) (at_false (nat_eq (m.position.generation + 1) (2 ^ 64)) _ _ test allowed),
           point_at program w w' m o o' r before after attempts state _ _ m.durable m.doubtful moved shut status failed at was.durable (was.durable ∙ ap (cut program m) (sym certain)) failures (waits ∙ was.waiting) (is is_open) (λ yes. certain) r.numbers.opened r.numbers.durable r.numbers.doubtful,
         )
 
     -- the point of the run after a checkpoint
     renewed : (x : Result (Unit {0}) Fault) → Uses (journal.journal_device o.journal) (journal.journal_device o'.journal) x → journals.Checkpoints o.journal x o'.journal → Next (checkpoint_reply x)
-    renewed (Ok u) uses it = made reply.Checkpointed next_image false m.session (λ n. n) it.0 it.1 uses.failures (λ e. e) refl
+    renewed (Ok u) uses it = made reply.Checkpointed next_image false m.status (λ n. n) it.0 it.1 uses.failures (λ e. e) refl
     renewed (Err fault.Device) uses it = made (reply.Fault fault.Device) (λ p. p) true Closed after_fault it.0 it.2 uses.failures (λ e. refl) refl
     renewed (Err fault.Unknown) uses it = made (reply.Fault fault.Unknown) (λ p. p) true Closed after_fault it.0 it.2 uses.failures (λ e. refl) refl
     renewed (Err fault.Closed) uses it =
-        (m, subst (λ (y : SessionStatus). AllowsCheckpoint y m (reply.Fault fault.Closed) m) (sym (was.status ∙ ap session_of (o.shut ∙ it.0))) (refl, refl), refused_at program w w' m o o' r before after attempts state it.1 waits)
+        (m, subst (λ (y : CoreStatus). AllowsCheckpoint y m (reply.Fault fault.Closed) m) (sym (was.status ∙ ap core_status (o.shut ∙ it.0))) (refl, refl), refused_at program w w' m o o' r before after attempts state it.1 waits)
     renewed (Err fault.Spent) uses it =
         let last : m.position.generation + 1 ≡ 2 ^ 64 = omega (arith, it.1, generation) in
         let test : nat_eq (m.position.generation + 1) (2 ^ 64) ≡ true = grind (arith, nat_tests) in (
           m,
-          subst (λ (y : SessionStatus). AllowsCheckpoint y m (reply.Fault fault.Spent) m) (sym (was.status ∙ ap session_of (o.shut ∙ it.0))) (at_true (nat_eq (m.position.generation + 1) (2 ^ 64)) _ _ test (refl, refl)),
+          subst (λ (y : CoreStatus). AllowsCheckpoint y m (reply.Fault fault.Spent) m) (sym (was.status ∙ ap core_status (o.shut ∙ it.0))) (at_true (nat_eq (m.position.generation + 1) (2 ^ 64)) _ _ test (refl, refl)),
           refused_at program w w' m o o' r before after attempts state it.2 waits,
         )
     renewed (Err _) uses it = absurd it
 
-  pub checkpoints : {at n : ℕ} (x : Result (Unit {0}) Fault) → CallsDevice at n o x o' → SessionCheckpoints o x o' → Next (checkpoint_reply x)
+  pub checkpoints : {at n : ℕ} (x : Result (Unit {0}) Fault) → CallsDevice at n o x o' → CheckpointsBoth o x o' → Next (checkpoint_reply x)
   checkpoints x did so = renewed did.state so.waits x did.uses so.journal
 
 -- what a crash leaves meanwhile

@@ -8,7 +8,7 @@ use Rattle.tmem_fault.specs.declared.fault.Fault.{Fault}
 use Rattle.tmem_fault.specs.declared.fault.Fault.TheVariants as fault
 use Rattle.tmem_event.specs.declared.event.Reply.{Reply}
 use Rattle.tmem_event.specs.declared.event.Reply.TheVariants as reply
-use Rattle.tmem_world.specs.declared.session.Session as core
+use Rattle.tmem_world.specs.declared.core_and_journal.CoreAndJournal as core
 use Rattle.tmem_world.specs.declared.held.Held.{Held}
 use Rattle.tmem_world.specs.declared.held.Held.TheVariants.{With}
 use Rattle.tmem_world.specs.Parts.{layout_in}
@@ -25,11 +25,11 @@ use Rattle.tmem_gate.specs.Calls.{Uses}
 use Rattle.tmem_journal.specs.Held as journal
 use Rattle.tmem_journal.specs.Journals as journals
 use Rattle.tmem_journal.specs.Contents.{Position, next_slot}
-use Rattle.tmem_world.specs.Sessions.{SessionFlushes, CallsDevice, waiting_after}
-use Rattle.tmem_world.specs.WorldModel.{WorldModel, SessionStatus, Open, Closed, present, cut, not_durable, IsBatchEnd, AllowsFlush, AllowsFlushOfSome}
-use Rattle.tmem_world.specs.Represents.{SessionIs, Represents, held_of, session_of}
+use Rattle.tmem_world.specs.CoresAndJournals.{FlushesBoth, CallsDevice, waiting_after}
+use Rattle.tmem_world.specs.WorldModel.{WorldModel, CoreStatus, Open, Closed, present, cut, not_durable, IsBatchEnd, AllowsFlush, AllowsFlushOfSome}
+use Rattle.tmem_world.specs.Represents.{BothAre, Represents, held_of, core_status}
 use Rattle.tmem_world.proofs.Serial.{AreNext, are_next}
-use Rattle.tmem_world.proofs.Points.{session_at, point_at, refused_at}
+use Rattle.tmem_world.proofs.Points.{both_at, point_at, refused_at}
 
 -- which reply a flush's answer is
 abbrev pub flush_reply : Result ℕ Fault → Reply
@@ -44,17 +44,17 @@ pub at_false : (b : Bool) (P Q : Type 0) → b ≡ false → Q → MatchBool b P
 at_false false P Q is q = q
 at_false true P Q is q = cc
 
-module _ {D T S : Type 0} {d t z : _} (program : Program) (w w' : World D T S d t z) (m : WorldModel) (o o' : core.Session D T d t) (r : Represents program w m)
+module _ {D T S : Type 0} {d t z : _} (program : Program) (w w' : World D T S d t z) (m : WorldModel) (o o' : core.CoreAndJournal D T d t) (r : Represents program w m)
     (before : held_of w ≡ With o) (after : held_of w' ≡ With o') (attempts : w'.attempts.items ≡ w.attempts.items) where
   abbrev Next : Reply → Type 0
-  Next x = (m' : WorldModel) × AllowsFlush program w.layout.slots m.session m x m' × Represents program w' m'
+  Next x = (m' : WorldModel) × AllowsFlush program w.layout.slots m.status m x m' × Represents program w' m'
 
   -- its journal has as many log slots as the layout
   over : (journal.journal_layout o.journal).slots ≡ w.layout.slots
   over = sym (ap (λ (h : Held D T d t). (layout_in h).slots) before) ∙ w.same_slots
 
-  was : SessionIs program o m
-  was = session_at program w m o before r
+  was : BothAre program o m
+  was = both_at program w m o before r
 
   used : (journal.journal_position o.journal).used ≡ m.position.used
   used = ap (λ (p : Position). p.used) was.position
@@ -67,14 +67,14 @@ module _ {D T S : Type 0} {d t z : _} (program : Program) (w w' : World D T S d 
   behind = omega (arith, ap length was.waiting, length-drop (m.durable - m.opened.count) (serial_effects program m.opened m.committed), length-serial_effects program m.opened m.committed r.numbers.each, r.numbers.durable, r.numbers.doubtful)
 
   module _ (state : core_state o'.core ≡ core_state o.core) (running : is_shut_of o.core ≡ false) where
-    is_open : m.session ≡ Open
-    is_open = was.status ∙ ap session_of running
+    is_open : m.status ≡ Open
+    is_open = was.status ∙ ap core_status running
 
-    nothing_waits : waiting_of o.core ≡ [] → AllowsFlush program w.layout.slots m.session m (reply.Durable (durable_of o.core)) m
+    nothing_waits : waiting_of o.core ≡ [] → AllowsFlush program w.layout.slots m.status m (reply.Durable (durable_of o.core)) m
     nothing_waits none =
         let same : m.durable ≡ (present program m).count = omega (arith, all, behind, ap length none, r.numbers.opened) in
         let test : nat_eq m.durable (present program m).count ≡ true = grind (arith, nat_tests) in
-        subst (λ (y : SessionStatus). AllowsFlush program w.layout.slots y m (reply.Durable (durable_of o.core)) m) (sym is_open) (at_true (nat_eq m.durable (present program m).count) _ _ test (ap (λ (k : ℕ). reply.Durable k) was.number, refl))
+        subst (λ (y : CoreStatus). AllowsFlush program w.layout.slots y m (reply.Durable (durable_of o.core)) m) (sym is_open) (at_true (nat_eq m.durable (present program m).count) _ _ test (ap (λ (k : ℕ). reply.Durable k) was.number, refl))
 
     module _ (es rest : List Effect) (waited : waiting_of o.core ≡ es ++ rest) (some : 1 ≤ length es) (few : length es ≤ 64) (taken : IsTaken (waiting_of o.core) es) where
       -- where something waits, the durable number is not the count
@@ -108,11 +108,11 @@ module _ {D T S : Type 0} {d t z : _} (program : Program) (w w' : World D T S d 
         taken = subst (λ (l : List Effect). IsTaken l (take ((m.durable + length es) - m.durable) (not_durable program m))) was.waiting (subst (λ (l : List Effect). IsTaken (waiting_of o.core) l) (sym first) taken);
       }
 
-      writes : (journal.journal_position o.journal).used < (journal.journal_layout o.journal).slots → (x : Reply) (m' : WorldModel) → AllowsFlushOfSome program m x m' → AllowsFlush program w.layout.slots m.session m x m'
+      writes : (journal.journal_position o.journal).used < (journal.journal_layout o.journal).slots → (x : Reply) (m' : WorldModel) → AllowsFlushOfSome program m x m' → AllowsFlush program w.layout.slots m.status m x m'
       writes left x m' by =
           let less : m.position.used < w.layout.slots = omega (arith, left, used, over) in
           let test : nat_eq m.position.used w.layout.slots ≡ false = grind (arith, nat_tests) in
-          subst (λ (y : SessionStatus). AllowsFlush program w.layout.slots y m x m') (sym is_open) (at_false (nat_eq m.durable (present program m).count) _ _ waits_some (at_false (nat_eq m.position.used w.layout.slots) _ _ test by))
+          subst (λ (y : CoreStatus). AllowsFlush program w.layout.slots y m x m') (sym is_open) (at_false (nat_eq m.durable (present program m).count) _ _ waits_some (at_false (nat_eq m.position.used w.layout.slots) _ _ test by))
 
       wrote : (n : ℕ) → journals.Flushes o.journal es (Ok n) o'.journal → waiting_of o'.core ≡ rest → (journal.journal_device o'.journal).failures ≡ (journal.journal_device o.journal).failures → Next (reply.Durable n)
       wrote n it waits failures =
@@ -122,14 +122,14 @@ module _ {D T S : Type 0} {d t z : _} (program : Program) (w w' : World D T S d 
           let m' : WorldModel = record m { durable = n; doubtful = n; position = next_slot m.position } in (
             m',
             writes it.0.left (reply.Durable n) m' (subst (λ (k : ℕ). IsBatchEnd program m k) is is_end, refl),
-            point_at program w w' m o o' r before after attempts state _ _ n n next_slot false m.session (λ f. f) it.2 here here failures (waits ∙ sym next_is) is_open (λ yes. refl) (omega (arith, r.numbers.opened, is)) (omega arith) (omega (arith, reached, is)),
+            point_at program w w' m o o' r before after attempts state _ _ n n next_slot false m.status (λ f. f) it.2 here here failures (waits ∙ sym next_is) is_open (λ yes. refl) (omega (arith, r.numbers.opened, is)) (omega arith) (omega (arith, reached, is)),
           )
 
       -- the device failed, and no transaction is durable that was not
       failed : (x : Reply) (second : State) (k : ℕ) → (has : journals.HasSlot o.journal) → journals.IsJournalAt o'.journal (journal.journal_state o.journal) second (journal.journal_position o.journal) true → second ≡ cut program m k → waiting_of o'.core ≡ waiting_of o.core
-          → (journal.journal_device o'.journal).failures ≡ after_fault (journal.journal_device o.journal).failures → m.durable ≤ k → k ≤ m.opened.count + length m.committed → AllowsFlushOfSome program m x (record m { session = Closed; failures = after_fault m.failures; doubtful = k }) → Next x
+          → (journal.journal_device o'.journal).failures ≡ after_fault (journal.journal_device o.journal).failures → m.durable ≤ k → k ≤ m.opened.count + length m.committed → AllowsFlushOfSome program m x (record m { status = Closed; failures = after_fault m.failures; doubtful = k }) → Next x
       failed x second k has at doubtful waits failures low high allowed =
-          let m' : WorldModel = record m { session = Closed; failures = after_fault m.failures; doubtful = k } in (
+          let m' : WorldModel = record m { status = Closed; failures = after_fault m.failures; doubtful = k } in (
             m',
             writes has.left x m' allowed,
             point_at program w w' m o o' r before after attempts state _ _ m.durable k (λ p. p) true Closed after_fault at was.durable doubtful failures (waits ∙ was.waiting) refl (λ yes. cc) r.numbers.opened low high,
@@ -144,19 +144,19 @@ module _ {D T S : Type 0} {d t z : _} (program : Program) (w w' : World D T S d 
           let full : m.position.used ≡ w.layout.slots = sym used ∙ it.1 ∙ over in
           let test : nat_eq m.position.used w.layout.slots ≡ true = grind (arith, nat_tests) in (
             m,
-            subst (λ (y : SessionStatus). AllowsFlush program w.layout.slots y m (reply.Fault fault.LogFull) m) (sym is_open) (at_false (nat_eq m.durable (present program m).count) _ _ waits_some (at_true (nat_eq m.position.used w.layout.slots) _ _ test (refl, refl))),
+            subst (λ (y : CoreStatus). AllowsFlush program w.layout.slots y m (reply.Fault fault.LogFull) m) (sym is_open) (at_false (nat_eq m.durable (present program m).count) _ _ waits_some (at_true (nat_eq m.position.used w.layout.slots) _ _ test (refl, refl))),
             refused_at program w w' m o o' r before after attempts state it.2 waits,
           )
       handed (Err _) uses it waits = absurd it
 
   -- the point of the run after a flush
-  pub flushes : {at n : ℕ} (x : Result ℕ Fault) → CallsDevice at n o x o' → SessionFlushes o x o' → Next (flush_reply x)
+  pub flushes : {at n : ℕ} (x : Result ℕ Fault) → CallsDevice at n o x o' → FlushesBoth o x o' → Next (flush_reply x)
   flushes x did so = ⊎_elim
       (λ it. subst (λ (y : Result ℕ Fault). Next (flush_reply y)) (sym it.answered)
-      (m, subst (λ (y : SessionStatus). AllowsFlush program w.layout.slots y m (reply.Fault fault.Closed) m) (sym (was.status ∙ ap session_of it.closed)) (refl, refl), same it.same))
+      (m, subst (λ (y : CoreStatus). AllowsFlush program w.layout.slots y m (reply.Fault fault.Closed) m) (sym (was.status ∙ ap core_status it.closed)) (refl, refl), same it.same))
       (⊎_elim
       (λ it. subst (λ (y : Result ℕ Fault). Next (flush_reply y)) (sym it.answered) (m, nothing_waits did.state it.running it.none, same it.same))
       (λ it. handed did.state it.running it.oldest it.rest it.waited it.some it.few it.taken x did.uses it.journal it.waits)) so
     where
       same : o' ≡ o → Represents program w' m
-      same is = refused_at program w w' m o o' r before after attempts did.state (ap (λ (y : core.Session D T d t). y.journal) is) (ap (λ (y : core.Session D T d t). waiting_of y.core) is)
+      same is = refused_at program w w' m o o' r before after attempts did.state (ap (λ (y : core.CoreAndJournal D T d t). y.journal) is) (ap (λ (y : core.CoreAndJournal D T d t). waiting_of y.core) is)

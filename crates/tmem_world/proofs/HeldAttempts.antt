@@ -1,4 +1,4 @@
--- What an attempt and a session keep.
+-- What an attempt and a core keep.
 use Rattle.std.proofs.Common.{◌≡◌, ⊎_elim, ℕ, List, get_or, length, refl, sym, ◌∙◌, ap, subst, arith, Option, Some, None}
 use Rattle.std.specs.Prelude.{◌<◌, true, All, Result, Ok, Err, OnOk, IfErr, option_map, IsSome, vec_len}
 use Rattle.std.specs.Map.{keys_of}
@@ -22,7 +22,7 @@ use Rattle.tmem_core.specs.Held.{core_state, core_table}
 use Rattle.tmem_core.specs.Program.{Program}
 use Rattle.tmem_event.specs.declared.event.Reply.{Reply}
 use Rattle.tmem_world.specs.declared.attempt.WorldAttempt.{WorldAttempt}
-use Rattle.tmem_world.specs.declared.session.Session as core
+use Rattle.tmem_world.specs.declared.core_and_journal.CoreAndJournal as core
 use Rattle.tmem_world.specs.Attempts.{HoldsEnded, IsForStore, FitsPlan, FitsOption, FitsAttempt}
 use Rattle.tmem_world.specs.SettleAttempt.{SettlesAttempt, attempt_after}
 use Rattle.tmem_world.specs.declared.held.Held.{Held}
@@ -106,7 +106,7 @@ module _ (vars : ℕ) (arities : List ℕ) (stated : StepMeanings → Type 0) (n
   begun_fits plan old new (Err f) variables steps known shapes held stands going same stays fits = fits_again old new same.1 same.2 stays fits
 
   -- an attempt that was settled
-  pub settles_fit : {D T : Type 0} {d t : _} (o o' : core.Session D T d t) (s after : WorldAttempt) (r : Reply) → SettlesAttempt o s r o' after → FitsAttempt vars arities stated names tested s → FitsAttempt vars arities stated names tested after
+  pub settles_fit : {D T : Type 0} {d t : _} (o o' : core.CoreAndJournal D T d t) (s after : WorldAttempt) (r : Reply) → SettlesAttempt o s r o' after → FitsAttempt vars arities stated names tested s → FitsAttempt vars arities stated names tested after
   settles_fit o o' s after r it fits = ⊎_elim (λ none. subst (FitsAttempt vars arities stated names tested) (sym none.1.2) fits) (λ some. subst (FitsAttempt vars arities stated names tested) (sym some.1.1.attempt) (by_answer some.1.0)) it
     where
       by_answer : (x : Result Settled Fault) → FitsAttempt vars arities stated names tested (attempt_after x s)
@@ -148,7 +148,7 @@ module _ {D T S : Type 0} {d t s : _} (w : World D T S d t s) where
   pub slot_fits : (k : ℕ) (x : WorldAttempt) → k < 16 → x ≡ get_or w.attempts.items k x → FitsAttempt w.layout.vars (s.arities w.steps) (s.is_stated w.steps) (names_of w.shapes.items) (λ tests. AreMeant tests w.shapes.items) x
   slot_fits k x below is = subst (FitsAttempt w.layout.vars (s.arities w.steps) (s.is_stated w.steps) (names_of w.shapes.items) (λ tests. AreMeant tests w.shapes.items)) (sym is) (w.fit k x (slot_there k below))
 
-module _ {D T S : Type 0} {d t s : _} (w : World D T S d t s) (o : core.Session D T d t) (here : held_of w ≡ With o) where
+module _ {D T S : Type 0} {d t s : _} (w : World D T S d t s) (o : core.CoreAndJournal D T d t) (here : held_of w ≡ With o) where
   vars_here : (length (core_state o.core).values) ≡ w.layout.vars
   vars_here = o.over ∙ sym (ap (λ (h : Held D T d t). (layout_in h).vars) here) ∙ w.same_vars
 
@@ -158,29 +158,29 @@ module _ {D T S : Type 0} {d t s : _} (w : World D T S d t s) (o : core.Session 
   meant_here : (tests : Meanings) → t.is_stated (core_table o.core) tests → AreMeant tests w.shapes.items
   meant_here tests is = w.meant tests (subst (λ (h : Held D T d t). t.is_stated (table_in h) tests) (sym here) is)
 
-  -- what an attempt holds is for the session's variables where it is for the world's
-  fits_session : (x : WorldAttempt) → FitsAttempt w.layout.vars (s.arities w.steps) (s.is_stated w.steps) (names_of w.shapes.items) (λ tests. AreMeant tests w.shapes.items) x
+  -- what an attempt holds is for the core's variables where it is for the world's
+  fits_core : (x : WorldAttempt) → FitsAttempt w.layout.vars (s.arities w.steps) (s.is_stated w.steps) (names_of w.shapes.items) (λ tests. AreMeant tests w.shapes.items) x
       → FitsAttempt (length (core_state o.core).values) (s.arities w.steps) (s.is_stated w.steps) (names_of w.shapes.items) (λ tests. AreMeant tests w.shapes.items) x
-  fits_session x fits = subst (λ (vars : ℕ). FitsAttempt vars (s.arities w.steps) (s.is_stated w.steps) (names_of w.shapes.items) (λ tests. AreMeant tests w.shapes.items) x) (sym vars_here) fits
+  fits_core x fits = subst (λ (vars : ℕ). FitsAttempt vars (s.arities w.steps) (s.is_stated w.steps) (names_of w.shapes.items) (λ tests. AreMeant tests w.shapes.items) x) (sym vars_here) fits
 
   -- and the other way round
   fits_world : (x : WorldAttempt) → FitsAttempt (length (core_state o.core).values) (s.arities w.steps) (s.is_stated w.steps) (names_of w.shapes.items) (λ tests. AreMeant tests w.shapes.items) x
       → FitsAttempt w.layout.vars (s.arities w.steps) (s.is_stated w.steps) (names_of w.shapes.items) (λ tests. AreMeant tests w.shapes.items) x
   fits_world x fits = subst (λ (vars : ℕ). FitsAttempt vars (s.arities w.steps) (s.is_stated w.steps) (names_of w.shapes.items) (λ tests. AreMeant tests w.shapes.items) x) vars_here fits
 
-  -- and so after a call that keeps it for the session
+  -- and so after a call that keeps it for the core
   pub fits_after : (x y : WorldAttempt) → FitsAttempt w.layout.vars (s.arities w.steps) (s.is_stated w.steps) (names_of w.shapes.items) (λ tests. AreMeant tests w.shapes.items) x
       → (FitsAttempt (length (core_state o.core).values) (s.arities w.steps) (s.is_stated w.steps) (names_of w.shapes.items) (λ tests. AreMeant tests w.shapes.items) x
       → FitsAttempt (length (core_state o.core).values) (s.arities w.steps) (s.is_stated w.steps) (names_of w.shapes.items) (λ tests. AreMeant tests w.shapes.items) y)
       → FitsAttempt w.layout.vars (s.arities w.steps) (s.is_stated w.steps) (names_of w.shapes.items) (λ tests. AreMeant tests w.shapes.items) y
-  fits_after x y fits keeps = fits_world y (keeps (fits_session x fits))
+  fits_after x y fits keeps = fits_world y (keeps (fits_core x fits))
 
-  -- it is for the names of the session's table too, and for what these are stated to mean
+  -- it is for the names of the core's table too, and for what these are stated to mean
   pub fits_table : (x : WorldAttempt) → FitsAttempt w.layout.vars (s.arities w.steps) (s.is_stated w.steps) (names_of w.shapes.items) (λ tests. AreMeant tests w.shapes.items) x
       → FitsAttempt (length (core_state o.core).values) (s.arities w.steps) (s.is_stated w.steps) (t.names (core_table o.core)) (t.is_stated (core_table o.core)) x
   fits_table x fits =
       subst (λ (names : List (List ℕ)). FitsAttempt (length (core_state o.core).values) (s.arities w.steps) (s.is_stated w.steps) names (t.is_stated (core_table o.core)) x) names_here
-      (option_for_fewer (length (core_state o.core).values) (s.arities w.steps) (s.is_stated w.steps) (names_of w.shapes.items) (λ tests. AreMeant tests w.shapes.items) (t.is_stated (core_table o.core)) meant_here x.plan x.cursor (fits_session x fits))
+      (option_for_fewer (length (core_state o.core).values) (s.arities w.steps) (s.is_stated w.steps) (names_of w.shapes.items) (λ tests. AreMeant tests w.shapes.items) (t.is_stated (core_table o.core)) meant_here x.plan x.cursor (fits_core x fits))
 
 -- an attempt holds what it held where no plan was begun for want of memory
 pub held_again : (program : Program) (a : AttemptModel) (old new : WorldAttempt) → new.plan ≡ old.plan → IsAsBefore old.cursor new.cursor → StaysAt old.cursor new.cursor → AttemptIs program old a → AttemptIs program new a

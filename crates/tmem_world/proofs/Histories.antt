@@ -18,7 +18,7 @@ use Rattle.tmem_event.specs.declared.event.Event.TheVariants as event
 use Rattle.tmem_event.specs.declared.event.Reply.{Reply}
 use Rattle.tmem_event.specs.declared.event.Reply.TheVariants as reply
 use Rattle.tmem_world.specs.Replies.{reply_of, acknowledged}
-use Rattle.tmem_world.specs.WorldModel.{WorldModel, AttemptModel, NoTransaction, Begun, Ended, SessionStatus, Open, Gone, Setting, present, attempt_at, goes_on, open_in, AllowsBegin, AllowsTurn, is_closed, settled_by, settle_result, AllowsFlushOfSome, AllowsFlush, AllowsNextImage, AllowsCheckpoint, AllowsReopen, InSession, Allows}
+use Rattle.tmem_world.specs.WorldModel.{WorldModel, AttemptModel, NoTransaction, Begun, Ended, CoreStatus, Open, Gone, Setting, present, attempt_at, goes_on, open_in, AllowsBegin, AllowsTurn, is_closed, settled_by, settle_result, AllowsFlushOfSome, AllowsFlush, AllowsNextImage, AllowsCheckpoint, AllowsReopen, WithCore, Allows}
 use Rattle.tmem_world.specs.Represents.{IsNumbered}
 use Rattle.tmem_world.specs.Chain.{ChainHistory, GoesOn, ended_plan, committed_after, history_after}
 use Rattle.tmem_world.proofs.Prefixes.{count_found, take_behind}
@@ -45,10 +45,10 @@ module _ (m : WorldModel) (e : Event) where
   unmoved : (r s : Reply) (m' : WorldModel) → ((txs : List Tx) → committed_after m e s txs ≡ txs) → acknowledged s ≤ m.durable → (r ≡ s) × (m' ≡ m) → Moves m e r m'
   unmoved r s m' same told is = subst (λ (x : Reply). Moves m e x m') (sym is.0) (stays s m' m is.1 same refl refl told (omega arith))
 
-  -- what happens in a session, or a refusal that changes nothing
-  in_session : (s : SessionStatus) (r : Reply) (m' : WorldModel) (allowed : Type 0) → ((txs : List Tx) → committed_after m e (reply.Fault fault.Closed) txs ≡ txs) → (allowed → Moves m e r m') → InSession s m r m' allowed → Moves m e r m'
-  in_session Gone r m' allowed same then is = unmoved r (reply.Fault fault.Closed) m' same (omega arith) is
-  in_session _ r m' allowed same then is = then is
+  -- what happens with a core, or a refusal that changes nothing
+  with_core : (s : CoreStatus) (r : Reply) (m' : WorldModel) (allowed : Type 0) → ((txs : List Tx) → committed_after m e (reply.Fault fault.Closed) txs ≡ txs) → (allowed → Moves m e r m') → WithCore s m r m' allowed → Moves m e r m'
+  with_core Gone r m' allowed same then is = unmoved r (reply.Fault fault.Closed) m' same (omega arith) is
+  with_core _ r m' allowed same then is = then is
 
 module _ (m : WorldModel) where
   begins : (set : Setting) (slot : ℕ) (tx : Tx) (r : Reply) (m' : WorldModel) → AllowsBegin set m slot tx r m' → Moves m (event.Begin slot tx) r m'
@@ -79,7 +79,7 @@ module _ (m : WorldModel) where
   flushes_some program (reply.Fault _) m' is = absurd is
   flushes_some program _ m' is = absurd is
 
-  flushes : (program : Program) (slots : ℕ) (s : SessionStatus) (r : Reply) (m' : WorldModel) → AllowsFlush program slots s m r m' → Moves m event.Flush r m'
+  flushes : (program : Program) (slots : ℕ) (s : CoreStatus) (r : Reply) (m' : WorldModel) → AllowsFlush program slots s m r m' → Moves m event.Flush r m'
   flushes program slots Open r m' is =
       chosen (nat_eq m.durable (present program m).count) _ _ (Moves m event.Flush r m') (unmoved m _ r (reply.Durable m.durable) m' (λ txs. refl) (omega arith))
       (chosen (nat_eq m.position.used slots) _ _ (Moves m event.Flush r m') (unmoved m _ r (reply.Fault fault.LogFull) m' (λ txs. refl) (omega arith)) (flushes_some program r m')) is
@@ -92,7 +92,7 @@ module _ (m : WorldModel) where
   next_image (reply.Fault _) m' is = absurd is
   next_image _ m' is = absurd is
 
-  checkpoints : (s : SessionStatus) (r : Reply) (m' : WorldModel) → AllowsCheckpoint s m r m' → Moves m event.Checkpoint r m'
+  checkpoints : (s : CoreStatus) (r : Reply) (m' : WorldModel) → AllowsCheckpoint s m r m' → Moves m event.Checkpoint r m'
   checkpoints Open r m' is =
       chosen (nat_eq (m.position.generation + 1) (2 ^ 64)) _ _ (Moves m event.Checkpoint r m') (unmoved m _ r (reply.Fault fault.Spent) m' (λ txs. refl) (omega arith)) (next_image r m') is
   checkpoints _ r m' is = unmoved m _ r (reply.Fault fault.Closed) m' (λ txs. refl) (omega arith) is
@@ -109,7 +109,7 @@ module _ (m : WorldModel) where
   settles_ended slot plan reads here (Err f) = stays m _ _ _ _ refl (λ txs. refl) refl refl (omega arith) (omega arith)
 
   settles : (program : Program) (slot : ℕ) (a : AttemptModel) → attempt_at m slot ≡ a → Moves m (event.Settle slot) (settle_result program a m slot).0 (settle_result program a m slot).1
-  settles program slot (Ended plan reads) here = settles_ended slot plan reads here (judged (is_closed m.session) (present program m) m.durable reads (verdict program plan (present program m)))
+  settles program slot (Ended plan reads) here = settles_ended slot plan reads here (judged (is_closed m.status) (present program m) m.durable reads (verdict program plan (present program m)))
   settles program slot _ here = stays m _ _ _ _ refl (λ txs. refl) refl refl (omega arith) (omega arith)
 
   reopens : (set : Setting) → IsNumbered set.program m → (r : Reply) (m' : WorldModel) → AllowsReopen set m r m' → Moves m event.Reopen r m'
@@ -128,13 +128,13 @@ module _ (m : WorldModel) where
 
 -- so it is of each event
 pub moves : (set : Setting) (m : WorldModel) → IsNumbered set.program m → (e : Event) (r : Reply) (m' : WorldModel) → Allows set m e r m' → Moves m e r m'
-moves set m numbers (event.Begin slot tx) r m' is = in_session m _ m.session r m' _ (λ txs. refl) (begins m set slot tx r m') is
-moves set m numbers (event.Turn slot) r m' is = in_session m _ m.session r m' _ (λ txs. refl) (turns m set.program (attempt_at m slot) slot r m') is
+moves set m numbers (event.Begin slot tx) r m' is = with_core m _ m.status r m' _ (λ txs. refl) (begins m set slot tx r m') is
+moves set m numbers (event.Turn slot) r m' is = with_core m _ m.status r m' _ (λ txs. refl) (turns m set.program (attempt_at m slot) slot r m') is
 moves set m numbers (event.Settle slot) r m' is =
-    in_session m _ m.session r m' _ (λ txs. refl) (λ (so : (r, m') ≡ settle_result set.program (attempt_at m slot) m slot). subst (λ (x : Reply × WorldModel). Moves m (event.Settle slot) x.0 x.1) (sym so) (settles m set.program slot (attempt_at m slot) refl)) is
-moves set m numbers event.Flush r m' is = in_session m _ m.session r m' _ (λ txs. refl) (flushes m set.program set.slots m.session r m') is
-moves set m numbers event.Checkpoint r m' is = in_session m _ m.session r m' _ (λ txs. refl) (checkpoints m m.session r m') is
-moves set m numbers event.Look r m' is = in_session m _ m.session r m' _ (λ txs. refl) (unmoved m _ r (reply.Looked m.durable) m' (λ txs. refl) (omega arith)) is
+    with_core m _ m.status r m' _ (λ txs. refl) (λ (so : (r, m') ≡ settle_result set.program (attempt_at m slot) m slot). subst (λ (x : Reply × WorldModel). Moves m (event.Settle slot) x.0 x.1) (sym so) (settles m set.program slot (attempt_at m slot) refl)) is
+moves set m numbers event.Flush r m' is = with_core m _ m.status r m' _ (λ txs. refl) (flushes m set.program set.slots m.status r m') is
+moves set m numbers event.Checkpoint r m' is = with_core m _ m.status r m' _ (λ txs. refl) (checkpoints m m.status r m') is
+moves set m numbers event.Look r m' is = with_core m _ m.status r m' _ (λ txs. refl) (unmoved m _ r (reply.Looked m.durable) m' (λ txs. refl) (omega arith)) is
 moves set m numbers event.Reopen r m' is = reopens m set numbers r m' is
 
 -- the run goes on with the next history

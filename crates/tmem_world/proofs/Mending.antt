@@ -50,9 +50,9 @@ module _ (vars slots : ℕ) where
   current_not_spent last few d device keeps only refused = ∥∥₁_elim (only.each keeps d.seen (device.seen_may_stay keeps)) (hlevel props) (λ it.
       let clash : Two ≡ One = sym it.2 ∙ (last vars slots it.0 it.1 d.seen few refused ∣ it.3 ∣₁).version in cc)
 
--- with a session and without one, a world's device leaves only contents of version 2
+-- with a core and without one, a world's device leaves only contents of version 2
 held_current : {D T : Type 0} {d t : _} (h : Held D T d t) → LeavesOnly (d.view (held_disk h)) (IsCurrent (layout_in h).vars (layout_in h).slots)
-held_current (With session) = session.journal.current
+held_current (With both) = both.journal.current
 held_current (Without left) = left.current
 
 pub world_current : {D T S : Type 0} {d t s : _} (w : World D T S d t s) → LeavesOnly (world_view w) (IsCurrent w.layout.vars w.layout.slots)

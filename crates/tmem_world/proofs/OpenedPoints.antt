@@ -14,11 +14,11 @@ use Rattle.tmem_journal.specs.declared.journal.Journal.{Journal}
 use Rattle.tmem_opening.specs.Held.{found_of, opening_position, opening_device}
 use Rattle.tmem_opening.specs.declared.opening.Opening.{Opening}
 use Rattle.tmem_world.specs.declared.attempt.WorldAttempt.{WorldAttempt}
-use Rattle.tmem_world.specs.declared.session.Session.{Session}
+use Rattle.tmem_world.specs.declared.core_and_journal.CoreAndJournal.{CoreAndJournal}
 use Rattle.tmem_world.specs.declared.held.Held.TheVariants.{With}
 use Rattle.tmem_world.specs.declared.world.World.{World}
 use Rattle.tmem_world.specs.WorldModel.{WorldModel, Open, opening, cut, present}
-use Rattle.tmem_world.specs.Represents.{Represents, SessionIs, held_of, session_of}
+use Rattle.tmem_world.specs.Represents.{Represents, BothAre, held_of, core_status}
 use Rattle.tmem_world.proofs.DroppedPoints.{no_attempts_held}
 use Rattle.tmem_world.proofs.Points.{in_point}
 
@@ -33,10 +33,10 @@ nothing_behind : (n : ℕ) → none_of Effect ≡ drop n (none_of Effect)
 nothing_behind zero = refl
 nothing_behind (suc n) = refl
 
-module _ {D T : Type 0} {d t : _} (program : Program) (x : Opening D T d t) (o : Session D T d t) (same : o.core ≡ x.core) (kept : o.journal ≡ x.journal) where
-  -- a session that was just begun is at the point of a run whose order ends with what was found
+module _ {D T : Type 0} {d t : _} (program : Program) (x : Opening D T d t) (o : CoreAndJournal D T d t) (same : o.core ≡ x.core) (kept : o.journal ≡ x.journal) where
+  -- a core and a journal that were just opened are at the point of a run whose order ends with what was found
   pub begun : (m : WorldModel) → found_of x ≡ present program m → (found_of x).count ≡ m.durable → none_of Effect ≡ drop (m.durable - m.opened.count) (serial_effects program m.opened m.committed)
-      → found_of x ≡ cut program m m.durable → m.doubtful ≡ m.durable → opening_position x ≡ m.position → m.session ≡ Open → SessionIs program o m
+      → found_of x ≡ cut program m m.durable → m.doubtful ≡ m.durable → opening_position x ≡ m.position → m.status ≡ Open → BothAre program o m
   begun m now counted none durable certain position stands = record {
     state = ap (λ (c : Core T t). core_state c) same ∙ now;
     number = ap (λ (c : Core T t). durable_of c) same ∙ x.known ∙ counted;
@@ -44,7 +44,7 @@ module _ {D T : Type 0} {d t : _} (program : Program) (x : Opening D T d t) (o :
     durable = ap (λ (j : Journal D d). journal.journal_state j) kept ∙ sym x.found ∙ durable;
     doubtful = ap (λ (j : Journal D d). journal.doubtful_of j) kept ∙ x.sure ∙ sym x.found ∙ durable ∙ ap (cut program m) (sym certain);
     position = ap (λ (j : Journal D d). journal.journal_position j) kept ∙ position;
-    status = stands ∙ ap session_of (sym (ap (λ (c : Core T t). is_shut_of c) same ∙ x.running));
+    status = stands ∙ ap core_status (sym (ap (λ (c : Core T t). is_shut_of c) same ∙ x.running));
     certain = λ yes. certain;
   }
 

@@ -14,7 +14,7 @@ use Rattle.tmem_event.specs.declared.event.Event.TheVariants as event
 use Rattle.tmem_event.specs.declared.event.Reply.{Reply}
 use Rattle.tmem_event.specs.declared.event.Reply.TheVariants as reply
 use Rattle.tmem_world.specs.declared.attempt.WorldAttempt.{WorldAttempt}
-use Rattle.tmem_world.specs.declared.session.Session as core
+use Rattle.tmem_world.specs.declared.core_and_journal.CoreAndJournal as core
 use Rattle.tmem_world.specs.declared.held.Held.{Held}
 use Rattle.tmem_world.specs.declared.held.Held.TheVariants.{With, Without}
 use Rattle.std.proofs.lemmas.Bool.{false≢true}
@@ -27,10 +27,10 @@ use Rattle.tmem_journal.specs.Contents.{Position, ContentRepresentsEither}
 use Rattle.tmem_journal.specs.declared.journal.Journal as owner
 use Rattle.tmem_record.specs.declared.layout.Layout.{Layout}
 use Rattle.tmem_world.specs.declared.world.World.{World}
-use Rattle.tmem_world.specs.WorldModel.{WorldModel, AttemptModel, NoTransaction, SessionStatus, InSession, cut, holding, attempt_at}
+use Rattle.tmem_world.specs.WorldModel.{WorldModel, AttemptModel, NoTransaction, CoreStatus, WithCore, cut, holding, attempt_at}
 use Rattle.tmem_world.proofs.Mending.{mended_represents}
 use Rattle.tmem_world.proofs.Serial.{count-cut}
-use Rattle.tmem_world.specs.Represents.{AttemptIs, SessionIs, HasSession, IsNumbered, Represents, Means, IsStep, EachMoment, WritesInStore, RepresentsCut, session_of, held_of, held_table, world_disk, world_view}
+use Rattle.tmem_world.specs.Represents.{AttemptIs, BothAre, HeldIs, IsNumbered, Represents, Means, IsStep, EachMoment, WritesInStore, RepresentsCut, core_status, held_of, held_table, world_disk, world_view}
 use Rattle.tmem_world.specs.AnyDevice.{Reopens}
 use Rattle.tmem_world.specs.EachPlayed.{IsAnswered}
 use Rattle.tmem_world.specs.Replies.{failures_by, IsFailedCall}
@@ -66,32 +66,32 @@ what_is_there None here here' = absurd (false≢true here)
 pub same_what : {A : Type 0} (o o' : Option A) (here : IsSome o) (here' : IsSome o') → o' ≡ o → what o' here' ≡ what o here
 same_what {A = A} o o' here here' is = subst (λ (x : Option A). (h : IsSome x) → what o' here' ≡ what x h) is (λ h. what_is_there o' h here') here
 
--- where there is a session, an event is answered as in a session
-pub in_session : {D T : Type 0} {d t : _} (program : Program) (h : Held D T d t) (m : WorldModel) (r : Reply) (m' : WorldModel) (allowed : Type 0) → HasSession program h m → IsWith h → allowed → InSession m.session m r m' allowed
-in_session program (Without left) m r m' allowed has some it = absurd some
-in_session program (With o) m r m' allowed has some it = by_state (is_shut_of o.core) has.status
+-- where there is a core, an event is answered as is allowed
+pub with_core : {D T : Type 0} {d t : _} (program : Program) (h : Held D T d t) (m : WorldModel) (r : Reply) (m' : WorldModel) (allowed : Type 0) → HeldIs program h m → IsWith h → allowed → WithCore m.status m r m' allowed
+with_core program (Without left) m r m' allowed has some it = absurd some
+with_core program (With o) m r m' allowed has some it = by_state (is_shut_of o.core) has.status
   where
-    by_state : (b : Bool) → m.session ≡ session_of b → InSession m.session m r m' allowed
-    by_state true is = subst (λ (z : SessionStatus). InSession z m r m' allowed) (sym is) it
-    by_state false is = subst (λ (z : SessionStatus). InSession z m r m' allowed) (sym is) it
+    by_state : (b : Bool) → m.status ≡ core_status b → WithCore m.status m r m' allowed
+    by_state true is = subst (λ (z : CoreStatus). WithCore z m r m' allowed) (sym is) it
+    by_state false is = subst (λ (z : CoreStatus). WithCore z m r m' allowed) (sym is) it
 
 -- where there is none, it is refused
-closed_session : {D T : Type 0} {d t : _} (program : Program) (h : Held D T d t) (m : WorldModel) (allowed : Type 0) → (IsWith h → ⊥) → HasSession program h m → InSession m.session m (reply.Fault fault.Closed) m allowed
-closed_session program (With o) m allowed none has = absurd (none tt)
-closed_session program (Without left) m allowed none is = subst (λ (z : SessionStatus). InSession z m (reply.Fault fault.Closed) m allowed) (sym is) (refl, refl)
+no_core : {D T : Type 0} {d t : _} (program : Program) (h : Held D T d t) (m : WorldModel) (allowed : Type 0) → (IsWith h → ⊥) → HeldIs program h m → WithCore m.status m (reply.Fault fault.Closed) m allowed
+no_core program (With o) m allowed none has = absurd (none tt)
+no_core program (Without left) m allowed none is = subst (λ (z : CoreStatus). WithCore z m (reply.Fault fault.Closed) m allowed) (sym is) (refl, refl)
 
--- a session that stands
-pub session_of_it : {D T : Type 0} {d t : _} (h : Held D T d t) → IsWith h → (o : core.Session D T d t) × (h ≡ With o)
-session_of_it (With o) it = (o, refl)
-session_of_it (Without left) it = absurd it
+-- a core and a journal that are there
+pub both_of_it : {D T : Type 0} {d t : _} (h : Held D T d t) → IsWith h → (o : core.CoreAndJournal D T d t) × (h ≡ With o)
+both_of_it (With o) it = (o, refl)
+both_of_it (Without left) it = absurd it
 
--- a world with a session holds one
-pub is_with : {D T : Type 0} {d t : _} (h : Held D T d t) (o : core.Session D T d t) → h ≡ With o → IsWith h
+-- what is `With` a core has one
+pub is_with : {D T : Type 0} {d t : _} (h : Held D T d t) (o : core.CoreAndJournal D T d t) → h ≡ With o → IsWith h
 is_with (With other) o is = tt
 is_with (Without left) o is = cc
 
-module _ {D T S : Type 0} {d t s : _} (program : Program) (w : World D T S d t s) (m : WorldModel) (o : core.Session D T d t) (here : held_of w ≡ With o) (is : SessionIs program o m) where
-  -- what the journal of a session allows is the serial order cut where it may be
+module _ {D T S : Type 0} {d t s : _} (program : Program) (w : World D T S d t s) (m : WorldModel) (o : core.CoreAndJournal D T d t) (here : held_of w ≡ With o) (is : BothAre program o m) where
+  -- what the journal allows is the serial order cut where it may be
   pub may_be : (c : List ℕ) → journal.MayBe o.journal c → RepresentsCut program w.layout.vars w.layout.slots m c
   may_be c it =
       let vars : (journal.journal_layout o.journal).vars ≡ w.layout.vars = sym (ap (λ (h : Held D T d t). (layout_in h).vars) here) ∙ w.same_vars in
@@ -105,38 +105,38 @@ module _ {D T S : Type 0} {d t s : _} (program : Program) (w : World D T S d t s
   pub stands_in : LeavesOnly (world_view w) (RepresentsCut program w.layout.vars w.layout.slots m)
   stands_in = subst (λ (h : Held D T d t). LeavesOnly (d.view (held_disk h)) (RepresentsCut program w.layout.vars w.layout.slots m)) (sym here) (record { each = λ keeps c left. may_be c (o.journal.stands.each keeps c left) })
 
-  -- a world with this session is at the point
+  -- a world with these two is at the point
   pub in_point : IsNumbered program m → AllZip (AttemptIs program) w.attempts.items m.attempts → (journal.journal_device o.journal).failures ≡ m.failures → Represents program w m
   in_point numbers attempts failures = record {
     numbers = numbers;
     attempts = attempts;
-    session = subst (λ (h : Held D T d t). HasSession program h m) (sym here) is;
+    held = subst (λ (h : Held D T d t). HeldIs program h m) (sym here) is;
     failures = ap (λ (h : Held D T d t). (d.view (held_disk h)).failures) here ∙ failures;
     device = stands_in;
   }
 
-module _ {D T S : Type 0} {d t s : _} (program : Program) (w : World D T S d t s) (m : WorldModel) (o : core.Session D T d t) (here : held_of w ≡ With o) (r : Represents program w m) where
-  -- the session of a point
-  pub session_at : SessionIs program o m
-  session_at = subst (λ (h : Held D T d t). HasSession program h m) here r.session
+module _ {D T S : Type 0} {d t s : _} (program : Program) (w : World D T S d t s) (m : WorldModel) (o : core.CoreAndJournal D T d t) (here : held_of w ≡ With o) (r : Represents program w m) where
+  -- the core and the journal of a point
+  pub both_at : BothAre program o m
+  both_at = subst (λ (h : Held D T d t). HeldIs program h m) here r.held
 
   pub failures_at : (journal.journal_device o.journal).failures ≡ m.failures
   failures_at = sym (ap (λ (h : Held D T d t). (d.view (held_disk h)).failures) here) ∙ r.failures
 
--- What a call of a session's journal leaves, which commits nothing.
-module _ {D T S : Type 0} {d t s : _} (program : Program) (w w' : World D T S d t s) (m : WorldModel) (o o' : core.Session D T d t) (r : Represents program w m)
+-- What a call of the journal leaves, which commits nothing.
+module _ {D T S : Type 0} {d t s : _} (program : Program) (w w' : World D T S d t s) (m : WorldModel) (o o' : core.CoreAndJournal D T d t) (r : Represents program w m)
     (before : held_of w ≡ With o) (after : held_of w' ≡ With o') (attempts : w'.attempts.items ≡ w.attempts.items) (state : core_state o'.core ≡ core_state o.core) where
-  was : SessionIs program o m
-  was = session_at program w m o before r
+  was : BothAre program o m
+  was = both_at program w m o before r
 
   -- the point where n transactions are durable, and k may be in their place
-  pub point_at : (first second : State) (n k : ℕ) (moved : Position → Position) (shut : Bool) (status : SessionStatus) (failed : ℕ → ℕ) → journals.IsJournalAt o'.journal first second (moved (journal.journal_position o.journal)) shut → first ≡ cut program m n → second ≡ cut program m k
-      → (journal.journal_device o'.journal).failures ≡ failed (journal.journal_device o.journal).failures → waiting_of o'.core ≡ drop (n - m.opened.count) (serial_effects program m.opened m.committed) → status ≡ session_of shut → (shut ≡ false → k ≡ n)
-      → m.opened.count ≤ n → n ≤ k → k ≤ m.opened.count + length m.committed → Represents program w' (record m { durable = n; doubtful = k; position = moved m.position; session = status; failures = failed m.failures })
+  pub point_at : (first second : State) (n k : ℕ) (moved : Position → Position) (shut : Bool) (status : CoreStatus) (failed : ℕ → ℕ) → journals.IsJournalAt o'.journal first second (moved (journal.journal_position o.journal)) shut → first ≡ cut program m n → second ≡ cut program m k
+      → (journal.journal_device o'.journal).failures ≡ failed (journal.journal_device o.journal).failures → waiting_of o'.core ≡ drop (n - m.opened.count) (serial_effects program m.opened m.committed) → status ≡ core_status shut → (shut ≡ false → k ≡ n)
+      → m.opened.count ≤ n → n ≤ k → k ≤ m.opened.count + length m.committed → Represents program w' (record m { durable = n; doubtful = k; position = moved m.position; status = status; failures = failed m.failures })
   point_at first second n k moved shut status failed at durable doubtful failures waiting is certain low between high =
       let now : is_shut_of o'.core ≡ shut = o'.shut ∙ at.closed in
       let here : journal.journal_state o'.journal ≡ cut program m n = at.state ∙ durable in
-      in_point program w' (record m { durable = n; doubtful = k; position = moved m.position; session = status; failures = failed m.failures }) o' after
+      in_point program w' (record m { durable = n; doubtful = k; position = moved m.position; status = status; failures = failed m.failures }) o' after
       (record {
         state = state ∙ was.state;
         number = o'.known ∙ ap (λ (x : State). x.count) here ∙ count-cut program m.opened m.committed n r.numbers.each low (omega (arith, between, high));
@@ -144,7 +144,7 @@ module _ {D T S : Type 0} {d t s : _} (program : Program) (w w' : World D T S d 
         durable = here;
         doubtful = at.doubtful ∙ doubtful;
         position = at.position ∙ ap moved was.position;
-        status = is ∙ ap session_of (sym now);
+        status = is ∙ ap core_status (sym now);
         certain = λ yes. certain (sym now ∙ yes);
       })
       (record { opened = low; durable = between; doubtful = high; each = r.numbers.each; sound = r.numbers.sound }) (subst (λ (l : List WorldAttempt). AllZip (AttemptIs program) l m.attempts) (sym attempts) r.attempts) (failures ∙ ap failed (failures_at program w m o before r))
@@ -158,18 +158,18 @@ module _ {D T S : Type 0} {d t s : _} (program : Program) (w w' : World D T S d 
         position = ap (λ (j : owner.Journal D d). journal.journal_position j) same;
         closed = ap (λ (j : owner.Journal D d). journal.is_closed_of j) same ∙ sym o.shut;
       } in
-      point_at _ _ m.durable m.doubtful (λ p. p) (is_shut_of o.core) m.session (λ n. n) at was.durable was.doubtful (ap (λ (j : owner.Journal D d). (journal.journal_device j).failures) same) (waits ∙ was.waiting) was.status was.certain r.numbers.opened r.numbers.durable r.numbers.doubtful
+      point_at _ _ m.durable m.doubtful (λ p. p) (is_shut_of o.core) m.status (λ n. n) at was.durable was.doubtful (ap (λ (j : owner.Journal D d). (journal.journal_device j).failures) same) (waits ∙ was.waiting) was.status was.certain r.numbers.opened r.numbers.durable r.numbers.doubtful
 
 module _ {D T S : Type 0} {d t s : _} (w w' : World D T S d t s) (layout : w'.layout ≡ w.layout) where
-  -- a session's journal at each moment of a flush or a checkpoint
-  pub call_moments : (o o' : core.Session D T d t) → held_of w ≡ With o → held_of w' ≡ With o' → AtEachMoment (journal.journal_device o.journal) (journal.journal_device o'.journal) (λ c. ∥ journal.MayBe o.journal c ⊎ journal.MayBe o'.journal c ∥₁) → EachMoment w w'
+  -- the journal at each moment of a flush or a checkpoint
+  pub call_moments : (o o' : core.CoreAndJournal D T d t) → held_of w ≡ With o → held_of w' ≡ With o' → AtEachMoment (journal.journal_device o.journal) (journal.journal_device o'.journal) (λ c. ∥ journal.MayBe o.journal c ⊎ journal.MayBe o'.journal c ∥₁) → EachMoment w w'
   call_moments o o' before after during = λ program m m' r r'.
       let P : List ℕ → Type 0 = λ c. ∥ RepresentsCut program w.layout.vars w.layout.slots m c ⊎ RepresentsCut program w.layout.vars w.layout.slots m' c ∥₁ in
       let then : (c : List ℕ) → journal.MayBe o'.journal c → RepresentsCut program w.layout.vars w.layout.slots m' c =
-      λ c it. subst (λ (l : Layout). RepresentsCut program l.vars l.slots m' c) layout (may_be program w' m' o' after (session_at program w' m' o' after r') c it) in
+      λ c it. subst (λ (l : Layout). RepresentsCut program l.vars l.slots m' c) layout (may_be program w' m' o' after (both_at program w' m' o' after r') c it) in
       let both : AtEachMoment (journal.journal_device o.journal) (journal.journal_device o'.journal) P = record {
         each = λ k c left. ∥∥₁_map (during.each k c left) (λ either. ⊎_elim
-            (λ (it : journal.MayBe o.journal c). inl (may_be program w m o before (session_at program w m o before r) c it))
+            (λ (it : journal.MayBe o.journal c). inl (may_be program w m o before (both_at program w m o before r) c it))
             (λ (it : journal.MayBe o'.journal c). inr (then c it)) either);
       } in
       subst (λ (h : Held D T d t). AtEachMoment (d.view (held_disk h)) (world_view w') P) (sym before)
@@ -192,7 +192,7 @@ module _ {D T S : Type 0} {d t s : _} (program : Program) (w w' : World D T S d 
   with_attempt k x a r here attempts kept_held layout = record {
     numbers = record { opened = r.numbers.opened; durable = r.numbers.durable; doubtful = r.numbers.doubtful; each = r.numbers.each; sound = r.numbers.sound };
     attempts = subst (λ (l : List WorldAttempt). AllZip (AttemptIs program) l (slice_set m.attempts k a)) (sym attempts) (AllZip-set (AttemptIs program) w.attempts.items m.attempts k x a r.attempts here);
-    session = subst (λ (h : Held D T d t). HasSession program h (holding m k a)) (sym held) (kept (held_of w) r.session);
+    held = subst (λ (h : Held D T d t). HeldIs program h (holding m k a)) (sym held) (kept (held_of w) r.held);
     failures = ap (λ (h : Held D T d t). (d.view (held_disk h)).failures) held ∙ r.failures;
     device = subst (λ (h : Held D T d t). LeavesOnly (d.view (held_disk h)) (RepresentsCut program w'.layout.vars w'.layout.slots m)) (sym held) (subst (λ (l : Layout). LeavesOnly (world_view w) (RepresentsCut program l.vars l.slots m)) (sym layout) r.device);
   }
@@ -200,12 +200,12 @@ module _ {D T S : Type 0} {d t s : _} (program : Program) (w w' : World D T S d 
       held : held_of w' ≡ held_of w
       held = same_what w.held w'.held w.here w'.here kept_held
 
-      kept : (h : Held D T d t) → HasSession program h m → HasSession program h (holding m k a)
+      kept : (h : Held D T d t) → HeldIs program h m → HeldIs program h (holding m k a)
       kept (Without left) has = has
       kept (With o) has = record { state = has.state; number = has.number; waiting = has.waiting; durable = has.durable; doubtful = has.doubtful; position = has.position; status = has.status; certain = has.certain }
 
--- what the closures of a world mean, those of its session's table mean
-pub core_means : {D T S : Type 0} {d t s : _} (program : Program) (w : World D T S d t s) (o : core.Session D T d t) → held_of w ≡ With o → Means w program → IsProgramOf t (core_table o.core) program
+-- what the closures of a world mean, those of its core's table mean
+pub core_means : {D T S : Type 0} {d t s : _} (program : Program) (w : World D T S d t s) (o : core.CoreAndJournal D T d t) → held_of w ≡ With o → Means w program → IsProgramOf t (core_table o.core) program
 core_means {D} {T} {t = t} program w o is means = subst (λ (x : T). IsProgramOf t x program) (ap (λ (h : Held D T _ t). table_in h) is) means.invariants
 
 module _ {D T S : Type 0} {d t s : _} (w w' : World D T S d t s) (same : w'.held ≡ w.held) where
@@ -223,7 +223,7 @@ module _ {D T S : Type 0} {d t s : _} (w w' : World D T S d t s) (same : w'.held
   same_point program m r attempts layout = record {
     numbers = r.numbers;
     attempts = subst (λ (l : List WorldAttempt). AllZip (AttemptIs program) l m.attempts) (sym attempts) r.attempts;
-    session = subst (λ (h : Held D T d t). HasSession program h m) (sym held_stays) r.session;
+    held = subst (λ (h : Held D T d t). HeldIs program h m) (sym held_stays) r.held;
     failures = failures_stay ∙ r.failures;
     device = subst (λ (x : D). LeavesOnly (d.view x) (RepresentsCut program w'.layout.vars w'.layout.slots m)) (sym device_stays) (subst (λ (l : Layout). LeavesOnly (world_view w) (RepresentsCut program l.vars l.slots m)) (sym layout) r.device);
   }
@@ -248,35 +248,35 @@ pub attempts_answered : {D T S : Type 0} {d t s : _} (w w' : World D T S d t s) 
 attempts_answered {D} {T} {d = d} {t = t} w w' e r layout steps same device step again failures which =
     still_answered w w' e r layout steps (ap (λ (h : Held D T d t). table_in h) (held_stays w w' same)) (device_stays w w' same) device step again failures which
 
--- Without a session an event is refused that needs one, and changes nothing.
+-- Without a core an event is refused that needs one, and changes nothing.
 pub settles_without : {D T S : Type 0} {d t s : _} (w w' : World D T S d t s) (slot : ℕ) → (IsWith (held_of w) → ⊥) → w'.layout ≡ w.layout → w'.steps ≡ w.steps → w'.held ≡ w.held → w'.attempts.items ≡ w.attempts.items → IsDevice (world_view w)
     → IsAnswered w (event.Settle slot) (reply.Fault fault.Closed) w'
 settles_without w w' slot none layout steps same attempts device =
     attempts_answered w w' (event.Settle slot) (reply.Fault fault.Closed) layout steps same device
-    (λ program means m r keeps. (m, closed_session program (held_of w) m _ none r.session, same_point w w' same program m r attempts layout)) tt (λ n. refl) tt
+    (λ program means m r keeps. (m, no_core program (held_of w) m _ none r.held, same_point w w' same program m r attempts layout)) tt (λ n. refl) tt
 
 pub turns_without : {D T S : Type 0} {d t s : _} (w w' : World D T S d t s) (slot : ℕ) → (IsWith (held_of w) → ⊥) → w'.layout ≡ w.layout → w'.steps ≡ w.steps → w'.held ≡ w.held → w'.attempts.items ≡ w.attempts.items → IsDevice (world_view w)
     → IsAnswered w (event.Turn slot) (reply.Fault fault.Closed) w'
 turns_without w w' slot none layout steps same attempts device =
     attempts_answered w w' (event.Turn slot) (reply.Fault fault.Closed) layout steps same device
-    (λ program means m r keeps. (m, closed_session program (held_of w) m _ none r.session, same_point w w' same program m r attempts layout)) tt (λ n. refl) tt
+    (λ program means m r keeps. (m, no_core program (held_of w) m _ none r.held, same_point w w' same program m r attempts layout)) tt (λ n. refl) tt
 
 pub flushes_without : {D T S : Type 0} {d t s : _} (w w' : World D T S d t s) → (IsWith (held_of w) → ⊥) → w'.layout ≡ w.layout → w'.steps ≡ w.steps → w'.held ≡ w.held → w'.attempts.items ≡ w.attempts.items → IsDevice (world_view w)
     → IsAnswered w event.Flush (reply.Fault fault.Closed) w'
 flushes_without w w' none layout steps same attempts device =
     attempts_answered w w' event.Flush (reply.Fault fault.Closed) layout steps same device
-    (λ program means m r keeps. (m, closed_session program (held_of w) m _ none r.session, same_point w w' same program m r attempts layout)) tt (λ n. refl) tt
+    (λ program means m r keeps. (m, no_core program (held_of w) m _ none r.held, same_point w w' same program m r attempts layout)) tt (λ n. refl) tt
 
 pub checkpoints_without : {D T S : Type 0} {d t s : _} (w w' : World D T S d t s) → (IsWith (held_of w) → ⊥) → w'.layout ≡ w.layout → w'.steps ≡ w.steps → w'.held ≡ w.held → w'.attempts.items ≡ w.attempts.items → IsDevice (world_view w)
     → IsAnswered w event.Checkpoint (reply.Fault fault.Closed) w'
 checkpoints_without w w' none layout steps same attempts device =
     attempts_answered w w' event.Checkpoint (reply.Fault fault.Closed) layout steps same device
-    (λ program means m r keeps. (m, closed_session program (held_of w) m _ none r.session, same_point w w' same program m r attempts layout)) tt (λ n. refl) tt
+    (λ program means m r keeps. (m, no_core program (held_of w) m _ none r.held, same_point w w' same program m r attempts layout)) tt (λ n. refl) tt
 
 pub looks_without : {D T S : Type 0} {d t s : _} (w : World D T S d t s) → (IsWith (held_of w) → ⊥) → IsDevice (world_view w) → IsAnswered w event.Look (reply.Fault fault.Closed) w
 looks_without w none device =
     attempts_answered w w event.Look (reply.Fault fault.Closed) refl refl refl device
-    (λ program means m r keeps. (m, closed_session program (held_of w) m _ none r.session, r)) tt (λ n. refl) tt
+    (λ program means m r keeps. (m, no_core program (held_of w) m _ none r.held, r)) tt (λ n. refl) tt
 
 pub AllZip-at : {A B : Type 0} (R : A → B → Type 0) (xs : List A) (ys : List B) (k : ℕ) (d : A) (e : B) → AllZip R xs ys → k < length xs → R (get_or xs k d) (get_or ys k e)
 AllZip-at R [] ys k d e each below = absurd (omega arith)

@@ -12,7 +12,7 @@ use Rattle.tmem_tree.specs.declared.settled.Settled.TheVariants.{Committed, Seen
 use Rattle.tmem_invariants.specs.Meanings.{IsSound}
 use Rattle.tmem_core.specs.Program.{Program}
 use Rattle.tmem_core.specs.Verdict.{serial_state, state_after, IsCommitted, AreCommitted}
-use Rattle.tmem_core.specs.Versions.{Follows}
+use Rattle.tmem_core.specs.Following.{Follows}
 use Rattle.tmem_core.proofs.Laws.{serial_state-append, count-committed, sound_after, same_order}
 use Rattle.tmem_journal.specs.Calls.{FitsOn}
 use Rattle.tmem_journal.specs.Mended.{Recovers, RecoveredBy}

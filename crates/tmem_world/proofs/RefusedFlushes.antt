@@ -1,4 +1,4 @@
--- What a session keeps where a flush was refused: the core is as it was, but that it may be shut.
+-- What is kept where a flush was refused: the core is as it was, but that it may be shut.
 use Rattle.std.proofs.Common.{◌≡◌, ℕ, Bool, List, length, refl, sym, ◌∙◌, ap, subst}
 use Rattle.std.specs.Prelude.{Result, Err}
 use Rattle.tmem_fault.specs.declared.fault.Fault.{Fault}
@@ -11,8 +11,8 @@ use Rattle.tmem_record.specs.declared.layout.Layout.{Layout}
 use Rattle.tmem_journal.specs.Held.{journal_state, journal_layout}
 use Rattle.tmem_journal.specs.Journals.{Flushes}
 use Rattle.tmem_journal.specs.declared.journal.Journal.{Journal}
-use Rattle.tmem_world.specs.declared.session.Session as core
-use Rattle.tmem_world.specs.Sessions.{waiting_after}
+use Rattle.tmem_world.specs.declared.core_and_journal.CoreAndJournal as core
+use Rattle.tmem_world.specs.CoresAndJournals.{waiting_after}
 
 -- the durable state stays
 state_then : {D : Type 0} {d : _} (old new : Journal D d) (es : List Effect) (f : Fault) → Flushes old es (Err f) new → journal_state new ≡ journal_state old
@@ -22,7 +22,7 @@ state_then {D} {d} old new es fault.Closed it = subst (λ (j : Journal D d). jou
 state_then {D} {d} old new es fault.LogFull it = subst (λ (j : Journal D d). journal_state j ≡ journal_state old) (sym it.2) refl
 state_then old new es _ it = absurd it
 
-module _ {D T : Type 0} {d t : _} (o : core.Session D T d t) (j : Journal D d) (es : List Effect) (x : Result ℕ Fault) (f : Fault) (is : x ≡ Err f) (flushed : Flushes o.journal es x j) (new : Core T t) (shut : Bool) (view : core_view new ≡ record (core_view o.core) { is_shut = shut }) where
+module _ {D T : Type 0} {d t : _} (o : core.CoreAndJournal D T d t) (j : Journal D d) (es : List Effect) (x : Result ℕ Fault) (f : Fault) (is : x ≡ Err f) (flushed : Flushes o.journal es x j) (new : Core T t) (shut : Bool) (view : core_view new ≡ record (core_view o.core) { is_shut = shut }) where
   kept : journal_state j ≡ journal_state o.journal
   kept = state_then o.journal j es f (subst (λ (y : Result ℕ Fault). Flushes o.journal es y j) is flushed)
 

@@ -11,7 +11,7 @@ use Rattle.tmem_fault.specs.declared.fault.Fault.TheVariants as fault
 use Rattle.tmem_event.specs.declared.event.Event.TheVariants as event
 use Rattle.tmem_event.specs.declared.event.Reply.TheVariants as reply
 use Rattle.tmem_world.specs.declared.attempt.WorldAttempt.{WorldAttempt}
-use Rattle.tmem_world.specs.declared.session.Session as core
+use Rattle.tmem_world.specs.declared.core_and_journal.CoreAndJournal as core
 use Rattle.tmem_world.specs.declared.held.Held.{Held}
 use Rattle.tmem_world.specs.declared.held.Held.TheVariants.{With, Without}
 use Rattle.tmem_world.specs.declared.world.World.{World}
@@ -36,8 +36,8 @@ use Rattle.tmem_record.specs.declared.layout.Layout.{Layout}
 use Rattle.tmem_world.specs.Parts.{held_disk, layout_in, table_in, IsWith}
 use Rattle.tmem_world.specs.AnyDevice.{dropped_by}
 use Rattle.tmem_world.specs.EachPlayed.{IsAnswered}
-use Rattle.tmem_world.specs.WorldModel.{Setting, WorldModel, SessionStatus, no_transactions, Open, cut, AllowsReopen, KeepsPosition}
-use Rattle.tmem_world.specs.Represents.{Represents, Means, KeepsSetting, HasSession, held_of, held_table, world_disk, world_view, session_of, setting_of}
+use Rattle.tmem_world.specs.WorldModel.{Setting, WorldModel, CoreStatus, no_transactions, Open, cut, AllowsReopen, KeepsPosition}
+use Rattle.tmem_world.specs.Represents.{Represents, Means, KeepsSetting, HeldIs, held_of, held_table, world_disk, world_view, core_status, setting_of}
 use Rattle.tmem_world.proofs.DroppedPoints.{no_attempts_held, gone}
 use Rattle.tmem_world.proofs.Mending.{current_after, current_not_spent, world_current}
 use Rattle.tmem_world.proofs.Points.{in_point, mending_moments}
@@ -47,7 +47,7 @@ use Rattle.tmem_world.proofs.Serial.{committed-take, count-cut, none_waits}
 
 -- the point of the run where n transactions were found, at that position
 abbrev found_at : WorldModel → ℕ → Position → WorldModel
-found_at m n position = record m { committed = take (n - m.opened.count) m.committed; durable = n; doubtful = n; position = position; attempts = no_transactions; session = Open }
+found_at m n position = record m { committed = take (n - m.opened.count) m.committed; durable = n; doubtful = n; position = position; attempts = no_transactions; status = Open }
 
 -- opening was refused by want of memory, or since a call of the device failed
 failed : (set : Setting) (m : WorldModel) (f : Fault) → (f ≡ fault.Spent → ⊥) → IsOpeningFailure f → AllowsReopen set m (reply.Fault f) (dropped_by f m)
@@ -78,9 +78,9 @@ module _ {D T S : Type 0} {d t z : _} (program : Program) (w w' : World D T S d 
         (λ (one : s ≡ cut program m m.durable). absurd (differ (ap (λ (x : State). x.count) one ∙ count-cut program m.opened m.committed m.durable r.numbers.each r.numbers.opened durable_within)))
         (λ other. other))
 
-  module _ (x : Opening D T d t) (o : core.Session D T d t) (some : held_of w' ≡ With o) (same : o.core ≡ x.core) (kept : o.journal ≡ x.journal) (failures : (opening_device x).failures ≡ (world_view w).failures)
+  module _ (x : Opening D T d t) (o : core.CoreAndJournal D T d t) (some : held_of w' ≡ With o) (same : o.core ≡ x.core) (kept : o.journal ≡ x.journal) (failures : (opening_device x).failures ≡ (world_view w).failures)
       (content : List ℕ) (read : ContentRepresents w.layout.vars w.layout.slots (opening_position x) (found_of x) content) where
-    found_as : KeepsPosition m.session m.position (opening_position x) → (n : ℕ) → (n ≡ m.durable) ⊎ (n ≡ m.doubtful) → m.opened.count ≤ n → n ≤ m.opened.count + length m.committed → found_of x ≡ cut program m n → (m' : WorldModel) × AllowsReopen (setting_of w program) m (reply.Opened (found_of x).count) m' × Represents program w' m'
+    found_as : KeepsPosition m.status m.position (opening_position x) → (n : ℕ) → (n ≡ m.durable) ⊎ (n ≡ m.doubtful) → m.opened.count ≤ n → n ≤ m.opened.count + length m.committed → found_of x ≡ cut program m n → (m' : WorldModel) × AllowsReopen (setting_of w program) m (reply.Opened (found_of x).count) m' × Represents program w' m'
     found_as still n which low high is =
         let k = n - m.opened.count in
         let le : k ≤ length m.committed = omega (arith, high) in
@@ -100,7 +100,7 @@ module _ {D T S : Type 0} {d t z : _} (program : Program) (w w' : World D T S d 
         )
 
     -- opening found a state of the run
-    pub found : KeepsPosition m.session m.position (opening_position x) → ∥ (found_of x ≡ cut program m m.durable) ⊎ (found_of x ≡ cut program m m.doubtful) ∥₁ → (n : ℕ) → n ≡ (found_of x).count → (m' : WorldModel) × AllowsReopen (setting_of w program) m (reply.Opened n) m' × Represents program w' m'
+    pub found : KeepsPosition m.status m.position (opening_position x) → ∥ (found_of x ≡ cut program m m.durable) ⊎ (found_of x ≡ cut program m m.doubtful) ∥₁ → (n : ℕ) → n ≡ (found_of x).count → (m' : WorldModel) × AllowsReopen (setting_of w program) m (reply.Opened n) m' × Represents program w' m'
     found still either n is =
         subst (λ (i : ℕ). (m' : WorldModel) × AllowsReopen (setting_of w program) m (reply.Opened i) m' × Represents program w' m') (sym is) (⊎_elim
         (λ (one : (found_of x).count ≡ m.durable).
@@ -109,8 +109,8 @@ module _ {D T S : Type 0} {d t z : _} (program : Program) (w w' : World D T S d 
         found_as still m.doubtful (inr refl) doubtful_from r.numbers.doubtful (by_doubtful (found_of x) either differ))
         (cases_eq (found_of x).count m.durable))
 
--- an open session's content represents its journal's state, at its position
-open_at : {D T : Type 0} {d t : _} (vars slots : ℕ) (o : core.Session D T d t) → is_shut_of o.core ≡ false → IsDevice (journal.journal_device o.journal) → (journal.journal_device o.journal).keeps_model
+-- an open journal's content represents its journal's state, at its position
+open_at : {D T : Type 0} {d t : _} (vars slots : ℕ) (o : core.CoreAndJournal D T d t) → is_shut_of o.core ≡ false → IsDevice (journal.journal_device o.journal) → (journal.journal_device o.journal).keeps_model
     → (journal.journal_layout o.journal).vars ≡ vars → (journal.journal_layout o.journal).slots ≡ slots → ContentRepresents vars slots (journal.journal_position o.journal) (journal.journal_state o.journal) (journal.journal_device o.journal).seen
 open_at vars slots o is device keeps over log =
     let running : journal.is_closed_of o.journal ≡ false = sym o.shut ∙ is in
@@ -118,20 +118,20 @@ open_at vars slots o is device keeps over log =
     subst (λ (v : ℕ). ContentRepresents v slots (journal.journal_position o.journal) (journal.journal_state o.journal) (journal.journal_device o.journal).seen) over
     (subst (λ (n : ℕ). ContentRepresents (journal.journal_layout o.journal).vars n (journal.journal_position o.journal) (journal.journal_state o.journal) (journal.journal_device o.journal).seen) log sure)
 
--- The position that a read's content represents is the one that an open session knows of.
+-- The position that a read's content represents is the one that an open journal has.
 module _ {D T : Type 0} {d t : _} (one : RepresentsOne) (program : Program) (m : WorldModel) (vars slots : ℕ) (small : vars ≤ 2 ^ 16) (p : Position) (s : State) where
-  position_by : (shut : Bool) (o : core.Session D T d t) → is_shut_of o.core ≡ shut → IsDevice (journal.journal_device o.journal) → (journal.journal_device o.journal).keeps_model
+  position_by : (shut : Bool) (o : core.CoreAndJournal D T d t) → is_shut_of o.core ≡ shut → IsDevice (journal.journal_device o.journal) → (journal.journal_device o.journal).keeps_model
       → (journal.journal_layout o.journal).vars ≡ vars → (journal.journal_layout o.journal).slots ≡ slots → IsFoundAt vars slots (journal.journal_device o.journal).seen s p
-      → journal.journal_position o.journal ≡ m.position → KeepsPosition (session_of shut) m.position p
+      → journal.journal_position o.journal ≡ m.position → KeepsPosition (core_status shut) m.position p
   position_by true o is device keeps over log found known = tt
   position_by false o is device keeps over log found known =
       found.goes_on ∙ ap migrated (one vars slots found.position (journal.journal_position o.journal) s (journal.journal_state o.journal) (journal.journal_device o.journal).seen small found.stands (open_at vars slots o is device keeps over log)).0 ∙ known
 
-  pub position_kept : (h : Held D T d t) → HasSession program h m → IsDevice (d.view (held_disk h)) → (d.view (held_disk h)).keeps_model → (layout_in h).vars ≡ vars → (layout_in h).slots ≡ slots
-      → IsFoundAt vars slots (d.view (held_disk h)).seen s p → KeepsPosition m.session m.position p
+  pub position_kept : (h : Held D T d t) → HeldIs program h m → IsDevice (d.view (held_disk h)) → (d.view (held_disk h)).keeps_model → (layout_in h).vars ≡ vars → (layout_in h).slots ≡ slots
+      → IsFoundAt vars slots (d.view (held_disk h)).seen s p → KeepsPosition m.status m.position p
   position_kept (With o) has device keeps over log stands =
-      subst (λ (x : SessionStatus). KeepsPosition x m.position p) (sym has.status) (position_by (is_shut_of o.core) o refl device keeps over log stands has.position)
-  position_kept (Without left) has device keeps over log stands = subst (λ (x : SessionStatus). KeepsPosition x m.position p) (sym has) tt
+      subst (λ (x : CoreStatus). KeepsPosition x m.position p) (sym has.status) (position_by (is_shut_of o.core) o refl device keeps over log stands has.position)
+  position_kept (Without left) has device keeps over log stands = subst (λ (x : CoreStatus). KeepsPosition x m.position p) (sym has) tt
 
 -- what is so of the device and the table that were taken out of a world is so of those that it held
 pub taken : {D T S : Type 0} {d t z : _} (w : World D T S d t z) (h : Held D T d t) (disk : D) (table : T) → held_of w ≡ h → disk ≡ held_disk h → table ≡ table_in h → (P : D → T → Type 0) → P disk table → P (world_disk w) (held_table w)
@@ -170,7 +170,7 @@ module _ {D T S : Type 0} {d t z : _} (w w' : World D T S d t z) (kept : KeepsSe
               (finds_cut program m r means (world_view w') (Err f) recovers keeps),
           point program m r,
         );
-        reopened = record { refused = it; session = none; attempts = emptied; point = point };
+        reopened = record { refused = it; no_core = none; attempts = emptied; point = point };
         any_moment = mending_moments w w' kept.numbers it.uses.model it.mends.recovers.any_moment;
         elsewhere = it.mends.recovers.elsewhere;
         failures = it.uses.failures;
@@ -179,9 +179,9 @@ module _ {D T S : Type 0} {d t z : _} (w w' : World D T S d t z) (kept : KeepsSe
         kept = kept;
       }
 
-  -- a session was begun
+  -- a core was made
   pub found_answered : (x : Opening D T d t) → IsOpened w.layout.vars w.layout.slots (held_table w) (world_view w) x
-      → RecoversEither FoundIs (IsProgramOf t (held_table w)) w.layout.vars w.layout.slots (world_view w) (opening_device x) (Ok x) → (o : core.Session D T d t) → held_of w' ≡ With o → o.core ≡ x.core → o.journal ≡ x.journal → (n : ℕ) → n ≡ (core_state o.core).count
+      → RecoversEither FoundIs (IsProgramOf t (held_table w)) w.layout.vars w.layout.slots (world_view w) (opening_device x) (Ok x) → (o : core.CoreAndJournal D T d t) → held_of w' ≡ With o → o.core ≡ x.core → o.journal ≡ x.journal → (n : ℕ) → n ≡ (core_state o.core).count
       → RepresentsOne → IsDevice (world_view w) → IsAnswered w event.Reopen (reply.Opened n) w'
   found_answered x it either o some same begun n count one device =
       let now : world_view w' ≡ opening_device x = ap (λ (y : Held D T d t). d.view (held_disk y)) some ∙ ap (λ (y : owner.Journal D d). journal.journal_device y) begun in
@@ -190,7 +190,7 @@ module _ {D T S : Type 0} {d t z : _} (w w' : World D T S d t z) (kept : KeepsSe
       let counted : n ≡ (found_of x).count = count ∙ ap (λ (c : Core T t). (core_state c).count) same in
       record {
         step = λ program means m r keeps. found program w w' m r kept.numbers emptied sized x o some same begun it.uses.failures (opening_device x).seen (it.found (model keeps)).stands
-            (position_kept one program m w.layout.vars w.layout.slots (few w) (opening_position x) (found_of x) (held_of w) r.session device (it.uses.model (model keeps)) w.same_vars w.same_slots (it.found (model keeps)).was)
+            (position_kept one program m w.layout.vars w.layout.slots (few w) (opening_position x) (found_of x) (held_of w) r.held device (it.uses.model (model keeps)) w.same_vars w.same_slots (it.found (model keeps)).was)
             (finds_cut program m r means (opening_device x) (Ok x) either (model keeps)) n counted;
         reopened = (
           found_of x,
@@ -199,7 +199,7 @@ module _ {D T S : Type 0} {d t z : _} (w w' : World D T S d t z) (kept : KeepsSe
           λ program means. opens program x o same begun w' some sized emptied (world_view w).failures it.uses.failures (held_table w) it.sound (subst (λ (y : T). IsProgramOf t y program) kept.table means.invariants),
           λ k. subst (λ (l : Layout). FindsState l.vars l.slots (world_view w) (world_view w') (opening_position x) (found_of x)) (sym kept.numbers)
               (subst (λ (v : DeviceView). FindsState w.layout.vars w.layout.slots (world_view w) v (opening_position x) (found_of x)) (sym now) (it.found (model k))),
-          λ none. (mends.gates none).looks,
+          λ none. (mends.gates none).reads_only,
         );
         any_moment = mending_moments w w' kept.numbers (λ k. it.uses.model (model k)) mends.recovers.any_moment;
         elsewhere = mends.recovers.elsewhere;

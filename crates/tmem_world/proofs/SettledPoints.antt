@@ -24,16 +24,16 @@ use Rattle.tmem_event.specs.declared.event.Reply.{Reply}
 use Rattle.tmem_journal.specs.Held as journal
 use Rattle.tmem_journal.specs.declared.journal.Journal as owner
 use Rattle.tmem_world.specs.declared.attempt.WorldAttempt.{WorldAttempt}
-use Rattle.tmem_world.specs.declared.session.Session as core
+use Rattle.tmem_world.specs.declared.core_and_journal.CoreAndJournal as core
 use Rattle.tmem_world.specs.declared.held.Held.TheVariants.{With}
 use Rattle.tmem_world.specs.declared.world.World.{World}
 use Rattle.tmem_world.specs.SettleAttempt.{SettlesAttempt, SettlesEnded}
 use Rattle.tmem_world.specs.Replies.{reply_of}
 use Rattle.tmem_world.specs.WorldModel.{WorldModel, AttemptModel, NoTransaction, Begun, Ended, is_closed, settle_result, settled_by, present, cut, holding}
-use Rattle.tmem_world.specs.Represents.{Evaluates, AttemptIs, SessionIs, Represents, held_of, session_of}
+use Rattle.tmem_world.specs.Represents.{Evaluates, AttemptIs, BothAre, Represents, held_of, core_status}
 use Rattle.tmem_world.proofs.HeldAttempts.{is_there}
 use Rattle.tmem_world.proofs.Serial.{waiting-append}
-use Rattle.tmem_world.proofs.Points.{AllZip-set, in_point, session_at, failures_at}
+use Rattle.tmem_world.proofs.Points.{AllZip-set, in_point, both_at, failures_at}
 
 -- the point of the run after one plan more
 abbrev committing_plan : WorldModel → ℕ → Tx → WorldModel
@@ -51,7 +51,7 @@ judged-committed false s d reads v n rs is = on (is_stale s reads) is where
   on true h = cc
   on false h = allowed-committed v d n rs h
 
-closed_of : (b : Bool) → is_closed (session_of b) ≡ b
+closed_of : (b : Bool) → is_closed (core_status b) ≡ b
 closed_of true = refl
 closed_of false = refl
 
@@ -60,10 +60,10 @@ module _ (program : Program) where
   abbrev SoundOn : State → Type 0
   SoundOn x = IsSound program.tests program.names x.names x.values
 
-  module _ {D T S : Type 0} {d t s : _} (w w' : World D T S d t s) (m : WorldModel) (k : ℕ) (o o' : core.Session D T d t) (means : IsProgramOf t (core_table o.core) program) (kept : o'.journal ≡ o.journal) (r : Represents program w m)
+  module _ {D T S : Type 0} {d t s : _} (w w' : World D T S d t s) (m : WorldModel) (k : ℕ) (o o' : core.CoreAndJournal D T d t) (means : IsProgramOf t (core_table o.core) program) (kept : o'.journal ≡ o.journal) (r : Represents program w m)
       (before : held_of w ≡ With o) (after : held_of w' ≡ With o') where
-    was : SessionIs program o m
-    was = session_at program w m o before r
+    was : BothAre program o m
+    was = both_at program w m o before r
 
     same_failures : (journal.journal_device o'.journal).failures ≡ m.failures
     same_failures = ap (λ (j : owner.Journal D d). (journal.journal_device j).failures) kept ∙ failures_at program w m o before r
@@ -78,7 +78,7 @@ module _ (program : Program) where
           durable = ap (λ (j : owner.Journal D d). journal.journal_state j) kept ∙ was.durable;
           doubtful = ap (λ (j : owner.Journal D d). journal.doubtful_of j) kept ∙ was.doubtful;
           position = ap (λ (j : owner.Journal D d). journal.journal_position j) kept ∙ was.position;
-          status = was.status ∙ ap (λ (v : CoreView T). session_of v.is_shut) (sym view);
+          status = was.status ∙ ap (λ (v : CoreView T). core_status v.is_shut) (sym view);
           certain = λ running. was.certain (ap (λ (v : CoreView T). v.is_shut) (sym view) ∙ running);
         })
         (record { opened = r.numbers.opened; durable = r.numbers.durable; doubtful = r.numbers.doubtful; each = r.numbers.each; sound = r.numbers.sound }) attempts same_failures
@@ -87,8 +87,8 @@ module _ (program : Program) where
     cuts : (plan : Tx) (n : ℕ) → n - m.opened.count ≤ length m.committed → cut program m n ≡ cut program (committing_plan m k plan) n
     cuts plan n le = ap (serial_state program m.opened) (sym (take-append-le (n - m.opened.count) m.committed (plan ∷ []) le))
 
-    -- the session after one that committed a plan
-    more_committed : (plan : Tx) (e : Effect) → e ∷ [] ≡ committed_of program plan (core_state o.core) → core_view o'.core ≡ committing (e ∷ []) (core_view o.core) → SessionIs program o' (committing_plan m k plan)
+    -- the core after one that committed a plan
+    more_committed : (plan : Tx) (e : Effect) → e ∷ [] ≡ committed_of program plan (core_state o.core) → core_view o'.core ≡ committing (e ∷ []) (core_view o.core) → BothAre program o' (committing_plan m k plan)
     more_committed plan e added view = record {
       state = ap (λ (v : CoreView T). v.state) view ∙ ap (fold (core_state o.core)) added ∙ ap (λ (s : State). state_after program s plan) was.state ∙ sym (serial_state-push program m.opened m.committed plan);
       number = ap (λ (v : CoreView T). v.durable) view ∙ was.number;
@@ -98,7 +98,7 @@ module _ (program : Program) where
       durable = ap (λ (j : owner.Journal D d). journal.journal_state j) kept ∙ was.durable ∙ cuts plan m.durable (omega (arith, r.numbers.doubtful, r.numbers.durable));
       doubtful = ap (λ (j : owner.Journal D d). journal.doubtful_of j) kept ∙ was.doubtful ∙ cuts plan m.doubtful (omega (arith, r.numbers.doubtful));
       position = ap (λ (j : owner.Journal D d). journal.journal_position j) kept ∙ was.position;
-      status = was.status ∙ ap (λ (v : CoreView T). session_of v.is_shut) (sym view);
+      status = was.status ∙ ap (λ (v : CoreView T). core_status v.is_shut) (sym view);
       certain = λ running. was.certain (ap (λ (v : CoreView T). v.is_shut) (sym view) ∙ running);
     }
 
@@ -108,8 +108,8 @@ module _ (program : Program) where
 
     -- the point where a plan was committed
     commits : (plan : Tx) → IsCommitted (verdict program plan (present program m)) → SoundOn (present program (committing_plan m k plan)) → AllZip (AttemptIs program) w'.attempts.items (slice_set m.attempts k NoTransaction)
-        → SessionIs program o' (committing_plan m k plan) → Represents program w' (committing_plan m k plan)
-    commits plan committed here attempts session = in_point program w' (committing_plan m k plan) o' after session (record {
+        → BothAre program o' (committing_plan m k plan) → Represents program w' (committing_plan m k plan)
+    commits plan committed here attempts held = in_point program w' (committing_plan m k plan) o' after held (record {
       opened = r.numbers.opened;
       durable = r.numbers.durable;
       doubtful = omega (arith, r.numbers.doubtful, length-append m.committed (plan ∷ []));
@@ -132,10 +132,10 @@ module _ (program : Program) where
     attempts_empty s' none attempts =
         subst (λ (l : List WorldAttempt). AllZip (AttemptIs program) l (slice_set m.attempts k NoTransaction)) (sym attempts) (AllZip-set (AttemptIs program) w.attempts.items m.attempts k s' NoTransaction r.attempts none)
 
-    -- nothing changed, and the session is the one that it was
+    -- nothing changed, and the core is the one that it was
     idles : (s s' : WorldAttempt) → s ≡ get_or w.attempts.items k s → s' ≡ s → w'.attempts.items ≡ slice_set w.attempts.items k s' → o' ≡ o → Represents program w' m
     idles s s' held same attempts is =
-        in_point program w' m o' after (subst (λ (x : core.Session D T d t). SessionIs program x m) (sym is) was) r.numbers (attempts_stay s s' held same attempts) same_failures
+        in_point program w' m o' after (subst (λ (x : core.CoreAndJournal D T d t). BothAre program x m) (sym is) was) r.numbers (attempts_stay s s' held same attempts) same_failures
 
     -- the core's new state is sound, by its type
     sound_now : core_table o'.core ≡ core_table o.core → SoundOn (core_state o'.core)
@@ -147,18 +147,18 @@ module _ (program : Program) where
     -- what the model answers is the core's answer
     is_answer : (plan : Tx) (x : Result Settled Fault) (had reads : List (ℕ × ℤ)) → had ≡ reads
         → x ≡ judged (is_shut_of o.core) (core_state o.core) (durable_of o.core) had (verdict program plan (core_state o.core))
-        → x ≡ judged (is_closed m.session) (present program m) m.durable reads (verdict program plan (present program m))
+        → x ≡ judged (is_closed m.status) (present program m) m.durable reads (verdict program plan (present program m))
     is_answer plan x had reads same is =
         let J : Bool → State → ℕ → List (ℕ × ℤ) → Result Settled Fault = λ b s n rs. judged b s n rs (verdict program plan s) in
-        let shut : is_shut_of o.core ≡ is_closed m.session = sym (ap is_closed was.status ∙ closed_of (is_shut_of o.core)) in
-        is ∙ ap (λ b. J b (core_state o.core) (durable_of o.core) had) shut ∙ ap (λ s. J (is_closed m.session) s (durable_of o.core) had) was.state
-        ∙ ap (λ n. J (is_closed m.session) (present program m) n had) was.number ∙ ap (J (is_closed m.session) (present program m) m.durable) same
+        let shut : is_shut_of o.core ≡ is_closed m.status = sym (ap is_closed was.status ∙ closed_of (is_shut_of o.core)) in
+        is ∙ ap (λ b. J b (core_state o.core) (durable_of o.core) had) shut ∙ ap (λ s. J (is_closed m.status) s (durable_of o.core) had) was.state
+        ∙ ap (λ n. J (is_closed m.status) (present program m) n had) was.number ∙ ap (J (is_closed m.status) (present program m) m.durable) same
 
     by_answer : (s s' : WorldAttempt) (plan : Tx) (x : Result Settled Fault) (y : Reply) → IsAt program.steps program.tests plan s.cursor → s ≡ get_or w.attempts.items k s → w'.attempts.items ≡ slice_set w.attempts.items k s' → SettlesEnded o s x y o' s' → Represents program w' (settled_by x m k plan)
     by_answer s s' plan (Ok (Committed n rs)) y at held attempts it =
         let right = it.right program.steps program.tests plan at in
         let committed : IsCommitted (verdict program plan (present program m)) =
-        judged-committed (is_closed m.session) (present program m) m.durable (given s.cursor) (verdict program plan (present program m)) n rs (is_answer plan (Ok (Committed n rs)) (given s.cursor) (given s.cursor) refl (it.core.verdict program plan means right)) in
+        judged-committed (is_closed m.status) (present program m) m.durable (given s.cursor) (verdict program plan (present program m)) n rs (is_answer plan (Ok (Committed n rs)) (given s.cursor) (given s.cursor) refl (it.core.verdict program plan means right)) in
         let more = more_committed plan (attempt_of s.cursor).effect (it.core.added program plan means right) it.core.view in
         commits plan committed (subst SoundOn more.state (sound_now (ap (λ (v : CoreView T). v.table) it.core.view))) (attempts_empty s' (ap (λ (z : WorldAttempt). z.plan) it.attempt) attempts) more
     by_answer s s' plan (Ok _) y at held attempts it = uncommitted (slice_set m.attempts k NoTransaction) (attempts_empty s' (ap (λ (z : WorldAttempt). z.plan) it.attempt) attempts) it.core.view
@@ -168,7 +168,7 @@ module _ (program : Program) where
         → (m' : WorldModel) × ((y, m') ≡ settle_result program (Ended plan reads) m k) × Represents program w' m'
     by_ended s s' plan reads x y is held attempts it =
         let now = settled_by x m k plan in
-        let whole : x ≡ judged (is_closed m.session) (present program m) m.durable reads (verdict program plan (present program m)) = is_answer plan x (given s.cursor) reads is.given (it.core.verdict program plan means (it.right program.steps program.tests plan is.at)) in
+        let whole : x ≡ judged (is_closed m.status) (present program m) m.durable reads (verdict program plan (present program m)) = is_answer plan x (given s.cursor) reads is.given (it.core.verdict program plan means (it.right program.steps program.tests plan is.at)) in
         (now, ap (λ (z : Reply). (z, now)) it.reply ∙ ap (λ (z : Result Settled Fault). (reply_of z, settled_by z m k plan)) whole, by_answer s s' plan x y is.at held attempts it)
 
     -- the point of the run after an attempt was settled

@@ -9,8 +9,8 @@ use Rattle.tmem_core.specs.Held.{core_state, waiting_of, durable_of, is_shut_of}
 use Rattle.tmem_core.specs.Taking.{IsTaken}
 use Rattle.tmem_journal.specs.Held as journal
 use Rattle.tmem_journal.specs.Journals as journals
-use Rattle.tmem_world.specs.declared.session.Session as core
-use Rattle.tmem_world.specs.Sessions.{SessionFlushes, waiting_after}
+use Rattle.tmem_world.specs.declared.core_and_journal.CoreAndJournal as core
+use Rattle.tmem_world.specs.CoresAndJournals.{FlushesBoth, waiting_after}
 use Rattle.tmem_effect.specs.Loggable.{IsLoggable}
 use Rattle.tmem_effect.specs.State.{StaysWithin, fold}
 use Rattle.tmem_effect.specs.declared.effect.Effect.{Effect}
@@ -30,7 +30,7 @@ module _ {T : Type 0} {t : _} (core : Core T t) (durable count : ℕ) (known : d
   some_wait not_all = omega (arith, core.counted, not_all)
 
 -- these were taken of what waits, from the durable number on
-module _ {D T : Type 0} {d t : _} (o : core.Session D T d t) (from : ℕ) (is : from ≡ durable_of o.core) (es : List Effect) (taken : drop (from - durable_of o.core) (waiting_of o.core) ≡ es ++ drop (from + length es - durable_of o.core) (waiting_of o.core)) where
+module _ {D T : Type 0} {d t : _} (o : core.CoreAndJournal D T d t) (from : ℕ) (is : from ≡ durable_of o.core) (es : List Effect) (taken : drop (from - durable_of o.core) (waiting_of o.core) ≡ es ++ drop (from + length es - durable_of o.core) (waiting_of o.core)) where
   none : from - durable_of o.core ≡ 0
   none = omega (arith, is)
 
@@ -69,8 +69,8 @@ module _ {D T : Type 0} {d t : _} (o : core.Session D T d t) (from : ℕ) (is : 
       ap (λ (k : ℕ). drop k (waiting_of o.core)) more
 
   -- the journal answered so, and what waits is what an answer leaves
-  pub handed : (new : core.Session D T d t) (answer : Result ℕ Fault) → is_shut_of o.core ≡ false → 1 ≤ length es → length es ≤ 64 → IsTaken (drop (from - durable_of o.core) (waiting_of o.core)) es
-      → journals.Flushes o.journal es answer new.journal → waiting_of new.core ≡ waiting_after answer (waiting_of o.core) (drop (length es) (waiting_of o.core)) → SessionFlushes o answer new
+  pub handed : (new : core.CoreAndJournal D T d t) (answer : Result ℕ Fault) → is_shut_of o.core ≡ false → 1 ≤ length es → length es ≤ 64 → IsTaken (drop (from - durable_of o.core) (waiting_of o.core)) es
+      → journals.Flushes o.journal es answer new.journal → waiting_of new.core ≡ waiting_after answer (waiting_of o.core) (drop (length es) (waiting_of o.core)) → FlushesBoth o answer new
   handed new answer running some few first flushed waits = inr (inr (record {
     oldest = es;
     rest = drop (length es) (waiting_of o.core);

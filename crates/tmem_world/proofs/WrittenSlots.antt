@@ -13,9 +13,9 @@ use Rattle.tmem_journal.specs.Held.{journal_device, journal_layout, journal_posi
 use Rattle.tmem_journal.specs.Journals.{Flushes}
 use Rattle.tmem_journal.specs.declared.journal.Journal.{Journal}
 use Rattle.tmem_world.specs.Parts.{held_disk, layout_in}
-use Rattle.tmem_world.specs.Sessions.{CallsDevice}
+use Rattle.tmem_world.specs.CoresAndJournals.{CallsDevice}
 use Rattle.tmem_world.specs.Represents.{WritesInStore, held_of, world_view}
-use Rattle.tmem_world.specs.declared.session.Session as core
+use Rattle.tmem_world.specs.declared.core_and_journal.CoreAndJournal as core
 use Rattle.tmem_world.specs.declared.held.Held.{Held}
 use Rattle.tmem_world.specs.declared.held.Held.TheVariants.{With}
 use Rattle.tmem_world.specs.declared.world.World.{World}
@@ -45,15 +45,15 @@ module _ {D : Type 0} {d : _} (old new : Journal D d) (device : IsDevice (journa
   in_log (Err fault.LogFull) it within = none it.2
   in_log (Err _) it within = absurd it
 
--- so a session's flush does
-pub flush_called : {D T : Type 0} {d t : _} (o o' : core.Session D T d t) → IsDevice (journal_device o.journal) → (es : List Effect) (x : Result ℕ Fault) → Uses (journal_device o.journal) (journal_device o'.journal) x
+-- so a flush does
+pub flush_called : {D T : Type 0} {d t : _} (o o' : core.CoreAndJournal D T d t) → IsDevice (journal_device o.journal) → (es : List Effect) (x : Result ℕ Fault) → Uses (journal_device o.journal) (journal_device o'.journal) x
     → AtEachMoment (journal_device o.journal) (journal_device o'.journal) (λ c. ∥ MayBe o.journal c ⊎ MayBe o'.journal c ∥₁) → Flushes o.journal es x o'.journal → WritesWithin (slot_at (journal_layout o.journal).vars (journal_position o.journal).used) 4096 (journal_device o.journal) (journal_device o'.journal)
     → journal_layout o'.journal ≡ journal_layout o.journal → core_state o'.core ≡ core_state o.core → core_table o'.core ≡ core_table o.core → CallsDevice (slot_at (journal_layout o.journal).vars 0) (4096 * (journal_layout o.journal).slots) o x o'
 flush_called o o' device es x uses during it within layout state table =
     record { uses = uses; any_moment = during; elsewhere = in_log o.journal o'.journal device es x it within; layout = layout; state = state; table = table }
 
 -- no call of the device at all
-pub called_nothing : {A D T : Type 0} {d t : _} (at n : ℕ) (o : core.Session D T d t) → IsDevice (journal_device o.journal) → (x : Result A Fault) → Uses (journal_device o.journal) (journal_device o.journal) x → CallsDevice at n o x o
+pub called_nothing : {A D T : Type 0} {d t : _} (at n : ℕ) (o : core.CoreAndJournal D T d t) → IsDevice (journal_device o.journal) → (x : Result A Fault) → Uses (journal_device o.journal) (journal_device o.journal) x → CallsDevice at n o x o
 called_nothing at n o device x uses = record {
   uses = uses;
   any_moment = record { each = λ k c left. ∣ inl (o.journal.stands.each k c (device.only_now c k left)) ∣₁ };
@@ -69,7 +69,7 @@ log_within vars slots old new within = WritesWithin-wider (slot_at vars 0) (4096
 
 module _ {D T S : Type 0} {d t s : _} (w : World D T S d t s) where
   -- what is written in the journal's store is written in the world's
-  pub store_within : (o : core.Session D T d t) (new : DeviceView) → held_of w ≡ With o → WritesInStore (journal_layout o.journal) (journal_device o.journal) new → WritesInStore w.layout (world_view w) new
+  pub store_within : (o : core.CoreAndJournal D T d t) (new : DeviceView) → held_of w ≡ With o → WritesInStore (journal_layout o.journal) (journal_device o.journal) new → WritesInStore w.layout (world_view w) new
   store_within o new before within =
       let vars : (journal_layout o.journal).vars ≡ w.layout.vars = sym (ap (λ (h : Held D T d t). (layout_in h).vars) before) ∙ w.same_vars in
       let slots : (journal_layout o.journal).slots ≡ w.layout.slots = sym (ap (λ (h : Held D T d t). (layout_in h).slots) before) ∙ w.same_slots in
@@ -77,5 +77,5 @@ module _ {D T S : Type 0} {d t s : _} (w : World D T S d t s) where
       (subst (λ (n : ℕ). WritesWithin (image_at (journal_layout o.journal).vars 0) (2 * image_size (journal_layout o.journal).vars + 4096 * n) (world_view w) new) slots
       (subst (λ (h : Held D T d t). WritesInStore (journal_layout o.journal) (d.view (held_disk h)) new) (sym before) within))
 
-  pub flush_within : (o : core.Session D T d t) (new : DeviceView) → held_of w ≡ With o → WritesWithin (slot_at (journal_layout o.journal).vars 0) (4096 * (journal_layout o.journal).slots) (journal_device o.journal) new → WritesInStore w.layout (world_view w) new
+  pub flush_within : (o : core.CoreAndJournal D T d t) (new : DeviceView) → held_of w ≡ With o → WritesWithin (slot_at (journal_layout o.journal).vars 0) (4096 * (journal_layout o.journal).slots) (journal_device o.journal) new → WritesInStore w.layout (world_view w) new
   flush_within o new before within = store_within o new before (log_within (journal_layout o.journal).vars (journal_layout o.journal).slots (journal_device o.journal) new within)

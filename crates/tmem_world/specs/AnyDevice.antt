@@ -11,12 +11,12 @@ use Rattle.tmem_effect.specs.State.{State}
 use Rattle.tmem_core.specs.Program.{Program, IsProgramOf}
 use Rattle.tmem_gate.specs.Calls.{failures_after}
 use Rattle.tmem_journal.specs.Contents.{Position, NeedsNoMigration}
-use Rattle.tmem_opening.specs.Opening.{FindsState, OpeningRefused, LooksWhereClosed}
+use Rattle.tmem_opening.specs.Opening.{FindsState, OpeningRefused, ReadsWhereClosed}
 use Rattle.tmem_world.specs.declared.attempt.WorldAttempt.{WorldAttempt}
 use Rattle.tmem_world.specs.declared.world.World.{World}
 use Rattle.tmem_world.specs.OneByOne.{OneByOne}
 use Rattle.tmem_world.specs.WorldModel.{Setting, WorldModel, Allows, opening, dropped}
-use Rattle.tmem_world.specs.Represents.{Represents, Means, HoldsSession, held_table, setting_of, world_view}
+use Rattle.tmem_world.specs.Represents.{Represents, Means, HasCore, held_table, setting_of, world_view}
 
 -- what an opening can be refused for
 abbrev pub IsOpeningFault : Fault → Type 0
@@ -30,11 +30,11 @@ IsOpeningFault (fault.Missing name) = ⊤
 IsOpeningFault (fault.Broken name) = ⊤
 IsOpeningFault _ = ⊥
 
--- the run without a session, once opening was refused so
+-- the run without a core, once opening was refused so
 abbrev pub dropped_by : Fault → WorldModel → WorldModel
 dropped_by f m = record (dropped m) { failures = failures_after f m.failures }
 
--- Reopen finds some state of the count that it answers, and a new run begins there; or the session is gone.
+-- Reopen finds some state of the count that it answers, and a new run begins there; or there is no core.
 abbrev pub AllowsReopenOnAnyDevice : WorldModel → Reply → WorldModel → Type 0
 AllowsReopenOnAnyDevice m (reply.Opened n) m' = (s : State) × (position : Position) × (s.count ≡ n) × (m' ≡ opening s position m.failures)
 AllowsReopenOnAnyDevice m (reply.Fault f) m' = IsOpeningFault f × (m' ≡ dropped_by f m)
@@ -53,10 +53,10 @@ RunOnAnyDevice set m es rs m' = OneByOne (AllowsOnAnyDevice set) m es rs m'
 abbrev pub HoldsNoTransaction : {D T S : Type 0} {d t s : _} → World D T S d t s → Type 0
 HoldsNoTransaction w = All (λ (attempt : WorldAttempt). attempt.plan ≡ None) w.attempts.items
 
--- Opening again was refused, as any opening is. No session stands then, each attempt is empty, and the run goes on so.
+-- Opening again was refused, as any opening is. There is no core then, each attempt is empty, and the run goes on so.
 pub record ReopeningRefused {D T S : Type 0} {d t s : _} (old : World D T S d t s) (f : Fault) (new : World D T S d t s) : Type 0 where
   pub refused : OpeningRefused (IsProgramOf t (held_table old)) old.layout.vars old.layout.slots (world_view old) f (world_view new)
-  pub session : ¬ HoldsSession new
+  pub no_core : ¬ HasCore new
   pub attempts : HoldsNoTransaction new
   pub point : (program : Program) (m : WorldModel) → Represents program old m → Represents program new (dropped_by f m)
 
@@ -68,7 +68,7 @@ IsReopened old (reply.Opened n) new =
     (s : State) × (position : Position) × (s.count ≡ n)
     × ((program : Program) → Means new program → Represents program new (opening s position (world_view old).failures))
     × ((world_view new).keeps_model → FindsState new.layout.vars new.layout.slots (world_view old) (world_view new) position s)
-    × (NeedsNoMigration old.layout.vars old.layout.slots (world_view old).seen → LooksWhereClosed old.layout.vars old.layout.slots (world_view old) (world_view new))
+    × (NeedsNoMigration old.layout.vars old.layout.slots (world_view old).seen → ReadsWhereClosed old.layout.vars old.layout.slots (world_view old) (world_view new))
 IsReopened old (reply.Fault f) new = ReopeningRefused old f new
 IsReopened old _ new = ⊥
 

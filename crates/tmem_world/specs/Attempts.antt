@@ -3,7 +3,7 @@ use Rattle.std.specs.Prelude.{◌≡◌, ⊤, ℕ, List, [], ◌∷◌, ◌++◌
 use Rattle.indexmap.specs.IndexMap.{insert_entry}
 use Rattle.tmem_fault.specs.declared.fault.Fault.TheVariants.{Memory}
 use Rattle.tmem_effect.specs.State.{State}
-use Rattle.tmem_effect.specs.Writes.{look}
+use Rattle.tmem_effect.specs.Writes.{value_in}
 use Rattle.tmem_invariants.specs.Meanings.{Meanings}
 use Rattle.tmem_tree.specs.declared.tx.Tx.{Tx}
 use Rattle.tmem_tree.specs.Plans.{PlanView, FitsSteps, FitsVariables, FitsNames, FitsShapes}
@@ -63,7 +63,7 @@ ComesTo stated tested plan cursor o =
 abbrev pub TurnsBegun : (StepMeanings → Type 0) → (Meanings → Type 0) → State → Tx → Cursor → Reply → Cursor → Type 0
 TurnsBegun stated tested state plan old (reply.Read var value) new =
     ComesTo stated tested plan old (outcome.Need var)
-    × (look (given old) var ≡ None)
+    × (value_in (given old) var ≡ None)
     × (value ≡ map_of state var)
     × (given new ≡ insert_entry nat_eq (given old) var value)
     × (answers new ≡ answers old)

@@ -10,7 +10,7 @@ use Rattle.tmem_tree.specs.declared.settled.Settled.TheVariants.{Committed}
 use Rattle.tmem_invariants.specs.Meanings.{IsSound}
 use Rattle.tmem_core.specs.Program.{Program}
 use Rattle.tmem_core.specs.Verdict.{serial_state, AreCommitted}
-use Rattle.tmem_core.specs.Versions.{Follows}
+use Rattle.tmem_core.specs.Following.{Follows}
 use Rattle.tmem_journal.specs.Calls.{FitsOn}
 use Rattle.tmem_journal.specs.Journals.{IsOpeningFailure}
 use Rattle.tmem_journal.specs.Mended.{IsFoundAt}

@@ -6,7 +6,7 @@ pub mod OneByOne
 pub mod Parts
 pub mod Replies
 pub mod Represents
-pub mod Sessions
+pub mod CoresAndJournals
 pub mod SettleAttempt
 pub mod Attempts
 pub mod WorldModel

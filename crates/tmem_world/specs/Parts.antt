@@ -1,4 +1,4 @@
--- What a world holds: a session, or the device and the table that are left without one.
+-- What a world has: a core with its journal, or the device and the table that are left without one.
 use Rattle.std.specs.Prelude.{Option, Some, None, IsSome}
 use Rattle.std.proofs.lemmas.Bool.{false≢true}
 use Rattle.tmem_core.specs.Held.{core_table}
@@ -14,20 +14,20 @@ what None is = absurd (false≢true is)
 
 -- its device
 abbrev pub held_disk : {D T : Type 0} {d t : _} → Held D T d t → D
-held_disk (With session) = disk_of session.journal
+held_disk (With both) = disk_of both.journal
 held_disk (Without left) = left.disk
 
 -- its numbers of variables and log slots
 abbrev pub layout_in : {D T : Type 0} {d t : _} → Held D T d t → Layout
-layout_in (With session) = journal_layout session.journal
+layout_in (With both) = journal_layout both.journal
 layout_in (Without left) = left.layout
 
 -- the table of its invariants
 abbrev pub table_in : {D T : Type 0} {d t : _} → Held D T d t → T
-table_in (With session) = core_table session.core
+table_in (With both) = core_table both.core
 table_in (Without left) = left.table
 
--- a session stands
+-- a core is there
 abbrev pub IsWith : {D T : Type 0} {d t : _} → Held D T d t → Type 0
-IsWith (With session) = Unit {0}
+IsWith (With both) = Unit {0}
 IsWith (Without left) = ⊥

@@ -20,20 +20,20 @@ use Rattle.tmem_event.specs.declared.event.Event.TheVariants as event
 use Rattle.tmem_event.specs.declared.event.Reply.{Reply}
 use Rattle.tmem_record.specs.declared.layout.Layout.{Layout}
 use Rattle.tmem_world.specs.declared.attempt.WorldAttempt.{WorldAttempt}
-use Rattle.tmem_world.specs.declared.session.Session as session
+use Rattle.tmem_world.specs.declared.core_and_journal.CoreAndJournal as both
 use Rattle.tmem_world.specs.declared.held.Held.{Held}
 use Rattle.tmem_world.specs.declared.held.Held.TheVariants.{With, Without}
 use Rattle.tmem_world.specs.declared.world.World.{World}
 use Rattle.tmem_journal.specs.Contents.{Position, ContentRepresentsEither}
 use Rattle.tmem_journal.specs.Held as journal
 use Rattle.tmem_world.specs.Replies.{IsAcknowledged}
-use Rattle.tmem_world.specs.WorldModel.{Setting, WorldModel, AttemptModel, NoTransaction, Begun, Ended, SessionStatus, Open, Closed, Gone, opening, present, cut, Allows, Run}
+use Rattle.tmem_world.specs.WorldModel.{Setting, WorldModel, AttemptModel, NoTransaction, Begun, Ended, CoreStatus, Open, Closed, Gone, opening, present, cut, Allows, Run}
 
 -- its numbers of variables and log slots
 abbrev pub numbers_of : {D T S : Type 0} {d t s : _} → World D T S d t s → Layout
 numbers_of w = w.layout
 
--- what it holds: a session, or the device and the table that are left without one
+-- what it has: a core with its journal, or the device and the table that are left without one
 abbrev pub held_of : {D T S : Type 0} {d t s : _} → World D T S d t s → Held D T d t
 held_of w = what w.held w.here
 
@@ -44,7 +44,7 @@ world_disk w = held_disk (held_of w)
 abbrev pub world_view : {D T S : Type 0} {d t s : _} → World D T S d t s → DeviceView
 world_view {d = d} w = d.view (world_disk w)
 
--- how many transactions a session knows to be durable
+-- how many transactions a core knows to be durable
 abbrev pub durable_in : {D T : Type 0} {d t : _} → Held D T d t → ℕ
 durable_in (With o) = durable_of o.core
 durable_in (Without left) = 0
@@ -93,25 +93,25 @@ AttemptIs program s NoTransaction = s.plan ≡ None
 AttemptIs program s (Begun tx values answered) = Evaluates program s tx values × (length (answers s.cursor) ≡ answered) × (¬ HasEnded s.cursor)
 AttemptIs program s (Ended tx values) = Evaluates program s tx values × HasEnded s.cursor
 
-abbrev pub session_of : Bool → SessionStatus
-session_of true = Closed
-session_of false = Open
+abbrev pub core_status : Bool → CoreStatus
+core_status true = Closed
+core_status false = Open
 
 -- The core has the present state and the effects from the durable number on, and the journal the states at the durable
 -- number and at the doubtful one.
-pub record SessionIs {D T : Type 0} {d t : _} (program : Program) (o : session.Session D T d t) (m : WorldModel) : Type 0 where
+pub record BothAre {D T : Type 0} {d t : _} (program : Program) (o : both.CoreAndJournal D T d t) (m : WorldModel) : Type 0 where
   pub state : core_state o.core ≡ present program m
   pub number : durable_of o.core ≡ m.durable
   pub waiting : waiting_of o.core ≡ drop (m.durable - m.opened.count) (serial_effects program m.opened m.committed)
   pub durable : journal.journal_state o.journal ≡ cut program m m.durable
   pub doubtful : journal.doubtful_of o.journal ≡ cut program m m.doubtful
   pub position : journal.journal_position o.journal ≡ m.position
-  pub status : m.session ≡ session_of (is_shut_of o.core)
+  pub status : m.status ≡ core_status (is_shut_of o.core)
   pub certain : is_shut_of o.core ≡ false → m.doubtful ≡ m.durable
 
-abbrev pub HasSession : {D T : Type 0} {d t : _} → Program → Held D T d t → WorldModel → Type 0
-HasSession program (With o) m = SessionIs program o m
-HasSession program (Without left) m = m.session ≡ Gone
+abbrev pub HeldIs : {D T : Type 0} {d t : _} → Program → Held D T d t → WorldModel → Type 0
+HeldIs program (With o) m = BothAre program o m
+HeldIs program (Without left) m = m.status ≡ Gone
 
 -- The durable number and the doubtful one are numbers of the run, and wherever its serial order is cut each registered
 -- invariant is in the table and true.
@@ -131,7 +131,7 @@ RepresentsCut program vars slots m c = ContentRepresentsEither vars slots (cut p
 pub record Represents {D T S : Type 0} {d t s : _} (program : Program) (w : World D T S d t s) (m : WorldModel) : Type 0 where
   pub numbers : IsNumbered program m
   pub attempts : AllZip (AttemptIs program) w.attempts.items m.attempts
-  pub session : HasSession program (held_of w) m
+  pub held : HeldIs program (held_of w) m
   pub failures : (world_view w).failures ≡ m.failures
   pub device : LeavesOnly (world_view w) (RepresentsCut program w.layout.vars w.layout.slots m)
 
@@ -165,9 +165,9 @@ Plays old es rs new =
     → (m : WorldModel) → Represents program old m → (world_view new).keeps_model
     → (m' : WorldModel) × Run (setting_of old program) m es rs m' × Represents program new m' × (m.durable ≤ m'.durable) × ((number : ℕ) → IsAcknowledged rs number → number < m'.durable)
 
--- a session stands, also a closed one
-abbrev pub HoldsSession : {D T S : Type 0} {d t s : _} → World D T S d t s → Type 0
-HoldsSession w = IsWith (held_of w)
+-- it has a core, also one that is closed
+abbrev pub HasCore : {D T S : Type 0} {d t s : _} → World D T S d t s → Type 0
+HasCore w = IsWith (held_of w)
 
 -- the device after an opening, whatever its answer
 abbrev pub world_device_after : {D T S : Type 0} {d t s : _} → Result (World D T S d t s) (Fault × D) → DeviceView

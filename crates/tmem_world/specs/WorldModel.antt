@@ -4,7 +4,7 @@ use Rattle.tmem_disk.specs.Disk.{after_fault}
 use Rattle.tmem_fault.specs.declared.fault.Fault.{Fault}
 use Rattle.tmem_fault.specs.declared.fault.Fault.TheVariants as fault
 use Rattle.tmem_effect.specs.State.{State}
-use Rattle.tmem_effect.specs.Writes.{look}
+use Rattle.tmem_effect.specs.Writes.{value_in}
 use Rattle.tmem_effect.specs.declared.effect.Effect.{Effect}
 use Rattle.tmem_tree.specs.declared.tx.Tx.{Tx}
 use Rattle.tmem_core.specs.Program.{Program}
@@ -41,15 +41,16 @@ pub data AttemptModel : Type 0 where
   Begun : (plan : Tx) → (reads : List (ℕ × ℤ)) → (answered : ℕ) → AttemptModel
   Ended : (plan : Tx) → (reads : List (ℕ × ℤ)) → AttemptModel
 
-pub data SessionStatus : Type 0 where
-  Open : SessionStatus
-  Closed : SessionStatus
-  Gone : SessionStatus
+-- whether a world has a core, and whether that was closed by a failure
+pub data CoreStatus : Type 0 where
+  Open : CoreStatus
+  Closed : CoreStatus
+  Gone : CoreStatus
 
--- a session stands, open or closed
-abbrev pub stands : SessionStatus → Bool
-stands Gone = false
-stands _ = true
+-- there is a core, open or closed
+abbrev pub is_there : CoreStatus → Bool
+is_there Gone = false
+is_there _ = true
 
 -- none of the sixteen attempts has a plan
 unfoldable pub no_transactions : List AttemptModel
@@ -68,7 +69,7 @@ pub record WorldModel : Type 0 where
   pub failures : ℕ
   -- sixteen attempts
   pub attempts : List AttemptModel
-  pub session : SessionStatus
+  pub status : CoreStatus
 
 -- the state after those of the committed transactions whose numbers are below n
 abbrev pub cut : Program → WorldModel → ℕ → State
@@ -88,7 +89,7 @@ opening s position failures = record {
   position = position;
   failures = failures;
   attempts = no_transactions;
-  session = Open;
+  status = Open;
 }
 
 abbrev pub attempt_at : WorldModel → ℕ → AttemptModel
@@ -114,7 +115,7 @@ value_or (Some n) other = n
 value_or None other = other
 
 abbrev pub overridden : List (ℕ × ℤ) → (ℕ → ℤ) → ℕ → ℤ
-overridden reads values var = value_or (look reads var) (values var)
+overridden reads values var = value_or (value_in reads var) (values var)
 
 -- A plan goes on with the first that is open: it reads the present value of a variable, or an invariant is tested on the values that
 -- the plan has for it there. A plan of which nothing is open has ended.
@@ -141,7 +142,7 @@ AllowsTurn program (Begun plan reads answered) m k r m' =
     ((r, m') ≡ goes_on (open_in program m plan reads answered) program m k plan reads answered)
     ⊎ ((r ≡ reply.Fault fault.Memory) × (m' ≡ m))
 
-abbrev pub is_closed : SessionStatus → Bool
+abbrev pub is_closed : CoreStatus → Bool
 is_closed Open = false
 is_closed _ = true
 
@@ -156,7 +157,7 @@ abbrev pub settle_result : Program → AttemptModel → WorldModel → ℕ → R
 settle_result program NoTransaction m k = (reply.Idle, m)
 settle_result program (Begun plan reads answered) m k = (reply.Idle, m)
 settle_result program (Ended plan reads) m k =
-    let answer = judged (is_closed m.session) (present program m) m.durable reads (verdict program plan (present program m)) in
+    let answer = judged (is_closed m.status) (present program m) m.durable reads (verdict program plan (present program m)) in
     (reply_of answer, settled_by answer m k plan)
 
 -- the records that are not durable, the oldest first
@@ -171,43 +172,43 @@ pub record IsBatchEnd (program : Program) (m : WorldModel) (n : ℕ) : Type 0 wh
   pub committed : n ≤ (present program m).count
   pub taken : IsTaken (not_durable program m) (take (n - m.durable) (not_durable program m))
 
--- A batch is made durable, or the device fails and the session is closed. After an unknown outcome the doubtful number is
+-- A batch is made durable, or the device fails and the core is closed. After an unknown outcome the doubtful number is
 -- what the batch would have reached.
 abbrev pub AllowsFlushOfSome : Program → WorldModel → Reply → WorldModel → Type 0
 AllowsFlushOfSome program m (reply.Durable n) m' =
     IsBatchEnd program m n × (m' ≡ record m { durable = n; doubtful = n; position = next_slot m.position })
-AllowsFlushOfSome program m (reply.Fault fault.Device) m' = m' ≡ record m { session = Closed; failures = after_fault m.failures }
+AllowsFlushOfSome program m (reply.Fault fault.Device) m' = m' ≡ record m { status = Closed; failures = after_fault m.failures }
 AllowsFlushOfSome program m (reply.Fault fault.Unknown) m' =
-    (n : ℕ) × IsBatchEnd program m n × (m' ≡ record m { session = Closed; failures = after_fault m.failures; doubtful = n })
+    (n : ℕ) × IsBatchEnd program m n × (m' ≡ record m { status = Closed; failures = after_fault m.failures; doubtful = n })
 AllowsFlushOfSome program m _ m' = ⊥
 
 -- Nothing is written where every record is durable, nor where each of so many log slots is used.
-abbrev pub AllowsFlush : Program → ℕ → SessionStatus → WorldModel → Reply → WorldModel → Type 0
+abbrev pub AllowsFlush : Program → ℕ → CoreStatus → WorldModel → Reply → WorldModel → Type 0
 AllowsFlush program slots Open m r m' =
     MatchBool (nat_eq m.durable (present program m).count)
     ((r ≡ reply.Durable m.durable) × (m' ≡ m))
     (MatchBool (nat_eq m.position.used slots) ((r ≡ reply.Fault fault.LogFull) × (m' ≡ m)) (AllowsFlushOfSome program m r m'))
 AllowsFlush program slots _ m r m' = (r ≡ reply.Fault fault.Closed) × (m' ≡ m)
 
--- The durable state becomes the next image, and every log slot is free again; or the device fails and the session is closed.
+-- The durable state becomes the next image, and every log slot is free again; or the device fails and the core is closed.
 -- No transaction is durable that was not, and none is doubtful.
 abbrev pub AllowsNextImage : WorldModel → Reply → WorldModel → Type 0
 AllowsNextImage m reply.Checkpointed m' = m' ≡ record m { position = next_image m.position }
-AllowsNextImage m (reply.Fault fault.Device) m' = m' ≡ record m { session = Closed; failures = after_fault m.failures }
-AllowsNextImage m (reply.Fault fault.Unknown) m' = m' ≡ record m { session = Closed; failures = after_fault m.failures }
+AllowsNextImage m (reply.Fault fault.Device) m' = m' ≡ record m { status = Closed; failures = after_fault m.failures }
+AllowsNextImage m (reply.Fault fault.Unknown) m' = m' ≡ record m { status = Closed; failures = after_fault m.failures }
 AllowsNextImage m _ m' = ⊥
 
 -- Nothing is written where no generation follows on the image's.
-abbrev pub AllowsCheckpoint : SessionStatus → WorldModel → Reply → WorldModel → Type 0
+abbrev pub AllowsCheckpoint : CoreStatus → WorldModel → Reply → WorldModel → Type 0
 AllowsCheckpoint Open m r m' = MatchBool (nat_eq (m.position.generation + 1) (2 ^ 64)) ((r ≡ reply.Fault fault.Spent) × (m' ≡ m)) (AllowsNextImage m r m')
 AllowsCheckpoint _ m r m' = (r ≡ reply.Fault fault.Closed) × (m' ≡ m)
 
--- without a session
+-- without a core
 abbrev pub dropped : WorldModel → WorldModel
-dropped m = record m { attempts = no_transactions; session = Gone }
+dropped m = record m { attempts = no_transactions; status = Gone }
 
--- While no call of the device has failed, the device has the image and the log slots that the session knows of.
-abbrev pub KeepsPosition : SessionStatus → Position → Position → Type 0
+-- While no call of the device has failed, the device is at the position that the journal has.
+abbrev pub KeepsPosition : CoreStatus → Position → Position → Type 0
 KeepsPosition Open known position = position ≡ known
 KeepsPosition _ known position = ⊤
 
@@ -221,24 +222,24 @@ IsReadOff set s position = (content : List ℕ) × ContentRepresents set.vars se
 abbrev pub AllowsReopen : Setting → WorldModel → Reply → WorldModel → Type 0
 AllowsReopen set m (reply.Opened n) m' =
     ((n ≡ m.durable) ⊎ (n ≡ m.doubtful))
-    × ((position : Position) × KeepsPosition m.session m.position position × (position.version ≡ Two) × IsReadOff set (cut set.program m n) position × (m' ≡ record m { committed = take (n - m.opened.count) m.committed; durable = n; doubtful = n; position = position; attempts = no_transactions; session = Open }))
+    × ((position : Position) × KeepsPosition m.status m.position position × (position.version ≡ Two) × IsReadOff set (cut set.program m n) position × (m' ≡ record m { committed = take (n - m.opened.count) m.committed; durable = n; doubtful = n; position = position; attempts = no_transactions; status = Open }))
 AllowsReopen set m (reply.Fault fault.Memory) m' = m' ≡ dropped m
 AllowsReopen set m (reply.Fault fault.Device) m' = m' ≡ record (dropped m) { failures = after_fault m.failures }
 AllowsReopen set m _ m' = ⊥
 
--- without a session every event but opening is refused
-abbrev pub InSession : SessionStatus → WorldModel → Reply → WorldModel → Type 0 → Type 0
-InSession Gone m r m' allowed = (r ≡ reply.Fault fault.Closed) × (m' ≡ m)
-InSession _ m r m' allowed = allowed
+-- without a core every event but opening is refused
+abbrev pub WithCore : CoreStatus → WorldModel → Reply → WorldModel → Type 0 → Type 0
+WithCore Gone m r m' allowed = (r ≡ reply.Fault fault.Closed) × (m' ≡ m)
+WithCore _ m r m' allowed = allowed
 
 -- In this run the event may be answered so, and leads to that run.
 abbrev pub Allows : Setting → WorldModel → Event → Reply → WorldModel → Type 0
-Allows set m (event.Begin k tx) r m' = InSession m.session m r m' (AllowsBegin set m k tx r m')
-Allows set m (event.Turn k) r m' = InSession m.session m r m' (AllowsTurn set.program (attempt_at m k) m k r m')
-Allows set m (event.Settle k) r m' = InSession m.session m r m' ((r, m') ≡ settle_result set.program (attempt_at m k) m k)
-Allows set m event.Flush r m' = InSession m.session m r m' (AllowsFlush set.program set.slots m.session m r m')
-Allows set m event.Checkpoint r m' = InSession m.session m r m' (AllowsCheckpoint m.session m r m')
-Allows set m event.Look r m' = InSession m.session m r m' ((r ≡ reply.Looked m.durable) × (m' ≡ m))
+Allows set m (event.Begin k tx) r m' = WithCore m.status m r m' (AllowsBegin set m k tx r m')
+Allows set m (event.Turn k) r m' = WithCore m.status m r m' (AllowsTurn set.program (attempt_at m k) m k r m')
+Allows set m (event.Settle k) r m' = WithCore m.status m r m' ((r, m') ≡ settle_result set.program (attempt_at m k) m k)
+Allows set m event.Flush r m' = WithCore m.status m r m' (AllowsFlush set.program set.slots m.status m r m')
+Allows set m event.Checkpoint r m' = WithCore m.status m r m' (AllowsCheckpoint m.status m r m')
+Allows set m event.Look r m' = WithCore m.status m r m' ((r ≡ reply.Looked m.durable) × (m' ≡ m))
 Allows set m event.Reopen r m' = AllowsReopen set m r m'
 
 -- These events may be answered so, one after another.

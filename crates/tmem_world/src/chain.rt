@@ -9,7 +9,7 @@ pub fn formatted_is_store<D: Disk>()
     ensures { FormattedIsStore D.view }
 {}
 
-/// A store is one for the next version of a program too: where its steps mean the same, and what is registered comes again with
+/// A store is one for the next release of a program too: where its steps mean the same, and what is registered comes again with
 /// the footprint and the answers that it had. So has what a committed transaction tested, also in a branch that then retried. What was
 /// retired need not come again; where it does, the table had it before too, with the same meaning. The table may have another order,
 /// and more invariants. It does nothing either.

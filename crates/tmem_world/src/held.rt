@@ -4,12 +4,12 @@ ghost use Rattle.tmem_disk.specs.Disk.{LeavesOnly};
 ghost use Rattle.tmem_journal.specs.Contents.{IsCurrent};
 ghost use Rattle.tmem_record.specs.Layout.{end_at};
 
-use crate::session::Session;
+use crate::core_and_journal::CoreAndJournal;
 use tmem_disk::Disk;
 use tmem_invariants::Invariants;
 use tmem_journal::Layout;
 
-/// The device and the table, where no session stands.
+/// The device and the table, where a world has no core.
 #[derive(Drop)]
 pub(crate) struct DeviceAndTable<D: Disk, T: Invariants> {
     pub(crate) disk: D,
@@ -18,21 +18,21 @@ pub(crate) struct DeviceAndTable<D: Disk, T: Invariants> {
     ghost room: { end_at layout.vars layout.slots ≤ (D.view disk).capacity },
     ghost over: { T.vars table ≡ layout.vars },
 
-    // The session wrote an image of version 2, or found one.
+    // It is of version 2: an opening found it so, or migrated it.
     ghost current: { LeavesOnly (D.view disk) (IsCurrent layout.vars layout.slots) },
 }
 
-/// A session, open or closed, or what is left without one.
+/// A core with its journal, open or closed, or what is left without one.
 #[derive(Drop)]
 pub(crate) enum Held<D: Disk, T: Invariants> {
-    With(Session<D, T>),
+    With(CoreAndJournal<D, T>),
     Without(DeviceAndTable<D, T>),
 }
 
 impl<D: Disk + Drop, T: Invariants + Drop> Held<D, T> {
     ghost use Rattle.tmem_world.specs.Parts.{held_disk, layout_in, table_in};
 
-    /// Ends the session, if one stands, and hands out the device and the table.
+    /// Lets go of the core, if there is one, and hands out the device and the table.
     pub(crate) fn into_parts(self) -> (D, T)
         ensures disk { result.0 ≡ held_disk self }
         ensures table { result.1 ≡ table_in self }
@@ -40,8 +40,8 @@ impl<D: Disk + Drop, T: Invariants + Drop> Held<D, T> {
         ensures over { T.vars result.1 ≡ (layout_in self).vars }
     {
         match self {
-            Held::With(session) => {
-                let Session { core, journal, .. } = session;
+            Held::With(both) => {
+                let CoreAndJournal { core, journal, .. } = both;
                 (journal.into_disk(), core.into_table())
             }
             Held::Without(left) => {

@@ -4,14 +4,14 @@
 //! its device leaves a content that represents the serial order of committed transactions, cut at a number that holds all
 //! that was acknowledged (`Represents`). What a crash leaves, and which state a reopening finds, rests on the disk model; on
 //! a device that breaks it a reopening begins another run (`AnyDevice`). `Chain` says all this through any chain of
-//! sessions. Transactions, their evaluation, the core and what stands on the device are crates of their own; `session`
+//! sessions. Transactions, their evaluation, the core and what stands on the device are crates of their own; `core_and_journal`
 //! joins a core to a journal.
 #![tactic(auto)]
 
 mod attempt;
 mod chain;
+mod core_and_journal;
 mod held;
-mod session;
 mod world;
 
 pub use chain::{crash_leaves_store, following_keeps_store, formatted_is_store};

@@ -14,11 +14,11 @@ ghost use Rattle.tmem_world.specs.Parts.{what, layout_in, table_in};
 ghost use Rattle.tmem_world.specs.Attempts.{FitsAttempt};
 ghost use Rattle.tmem_world.specs.Facts.{FitsAttempt-prop};
 ghost use Rattle.tmem_event.specs.Events.{NamesAttempt};
-ghost use Rattle.tmem_world.specs.WorldModel.{WorldModel, opening, present, stands, Run};
+ghost use Rattle.tmem_world.specs.WorldModel.{WorldModel, opening, present, is_there, Run};
 
 use crate::attempt::WorldAttempt;
+use crate::core_and_journal::CoreAndJournal;
 use crate::held::{DeviceAndTable, Held};
-use crate::session::Session;
 use std::alloc::{AllocError, Global};
 use tmem_disk::Disk;
 use tmem_event::{ATTEMPTS, Event, Reply};
@@ -35,7 +35,7 @@ pub struct World<D: Disk, T: Invariants, S: StoredSteps> {
     steps: S,
     // what a plan has to know of the table's invariants, in its order
     shapes: Vec<Shape>,
-    // a session, or what is left without one: it is away only while the device is opened again
+    // a core with its journal, or what is left without one: it is away only while the device is opened again
     held: Option<Held<D, T>>,
     attempts: Vec<WorldAttempt>,
     ghost sized: { length attempts.items ≡ 16 },
@@ -63,7 +63,7 @@ impl<D: Disk + Drop, T: Invariants + Drop, S: StoredSteps + Drop> Drop for World
 }
 
 impl<D: Disk + Drop, T: Invariants + Drop, S: StoredSteps + Drop> World<D, T, S> {
-    ghost use Rattle.tmem_world.specs.Represents.{Represents, AreMeantBy, Means, IsStep, Plays, EachMoment, WritesInStore, HoldsSession, BeginsAt, KeepsSetting, numbers_of, world_disk, world_view, world_device_after, world_steps, held_table, durable_number};
+    ghost use Rattle.tmem_world.specs.Represents.{Represents, AreMeantBy, Means, IsStep, Plays, EachMoment, WritesInStore, HasCore, BeginsAt, KeepsSetting, numbers_of, world_disk, world_view, world_device_after, world_steps, held_table, durable_number};
     ghost use Rattle.tmem_world.specs.AnyDevice.{Reopens, PlaysOnAnyDevice};
     ghost use Rattle.tmem_world.specs.Replies.{failures_by, failures_by_all, CallsNoDevice, IsFailedCall};
     ghost use Rattle.tmem_world.specs.Chain.{ChainHistory, IsStore, OpensStore, StepsOn, PlaysOn};
@@ -92,7 +92,7 @@ impl<D: Disk + Drop, T: Invariants + Drop, S: StoredSteps + Drop> World<D, T, S>
             × ((world_view w).keeps_model → FindsState vars slots (D.view disk) (world_view w) position s)) }
         ensures steps { IfOk result (λ w. world_steps w ≡ steps) }
         ensures table { IfOk result (λ w. held_table w ≡ table) }
-        ensures fits { IfOk result (λ w. ((numbers_of w).vars ≡ vars) × ((numbers_of w).slots ≡ slots) × HoldsSession w × FitsOn vars slots (D.view disk).capacity) }
+        ensures fits { IfOk result (λ w. ((numbers_of w).vars ≡ vars) × ((numbers_of w).slots ≡ slots) × HasCore w × FitsOn vars slots (D.view disk).capacity) }
         ensures uses { Uses (D.view disk) (world_device_after result) (fault_alone result) }
         ensures refused { IfErr result (λ e. OpeningRefused (IsProgramOf T.Invariants table) vars slots (D.view disk) e.0 (D.view e.1)) }
 
@@ -125,13 +125,13 @@ impl<D: Disk + Drop, T: Invariants + Drop, S: StoredSteps + Drop> World<D, T, S>
             Ok(attempts) => attempts,
             Err(_) => return Err((Fault::Memory, opening.into_disk())),
         };
-        let (session, shapes) = Session::begin(opening);
+        let (both, shapes) = CoreAndJournal::of(opening);
         Ok(World {
             alloc,
-            layout: session.journal.layout(),
+            layout: both.journal.layout(),
             steps,
             shapes,
-            held: Some(Held::With(session)),
+            held: Some(Held::With(both)),
             attempts,
         })
     }
@@ -189,44 +189,44 @@ impl<D: Disk + Drop, T: Invariants + Drop, S: StoredSteps + Drop> World<D, T, S>
         Ok(replies)
     }
 
-    /// Whether a session stands, also a closed one.
+    /// Whether it has a core, also one that is closed.
     pub fn is_open(&self) -> bool
-        ensures session { IsTrue result ↔ HoldsSession self.now }
-        ensures status { (program : Program) (m : WorldModel) → Represents program self.now m → result ≡ stands m.session }
+        ensures held { IsTrue result ↔ HasCore self.now }
+        ensures status { (program : Program) (m : WorldModel) → Represents program self.now m → result ≡ is_there m.status }
     {
         matches!(&self.held, Some(Held::With(_)))
     }
 
-    /// How many transactions were committed. A session stands.
+    /// How many transactions were committed. It has a core.
     pub fn count(&self) -> u64
-        requires { HoldsSession self.now }
+        requires { HasCore self.now }
         ensures { (program : Program) (m : WorldModel) → Represents program self.now m → result ≡ (present program m).count }
     {
         match &self.held {
-            Some(Held::With(session)) => session.core.count(),
+            Some(Held::With(both)) => both.core.count(),
             _ => unreachable!(),
         }
     }
 
-    /// The value of a variable after every committed transaction. A session stands, and the variable is one of the store's.
+    /// The value of a variable after every committed transaction. It has a core, and the variable is one of its own.
     pub fn value(&self, var: u16) -> i64
-        requires open { HoldsSession self.now }
+        requires open { HasCore self.now }
         requires var { var < (numbers_of self.now).vars }
         ensures { (program : Program) (m : WorldModel) → Represents program self.now m → result ≡ slice_index_or (present program m).values var (pos 0) }
     {
         match &self.held {
-            Some(Held::With(session)) => session.core.peek(var),
+            Some(Held::With(both)) => both.core.peek(var),
             _ => unreachable!(),
         }
     }
 
-    /// Whether an invariant of this name is registered. A session stands.
+    /// Whether an invariant of this name is registered. It has a core.
     pub fn has(&self, name: &Name) -> bool
-        requires { HoldsSession self.now }
+        requires { HasCore self.now }
         ensures { (program : Program) (m : WorldModel) → Represents program self.now m → result ≡ has_name (present program m).names name.now }
     {
         match &self.held {
-            Some(Held::With(session)) => session.core.has(name),
+            Some(Held::With(both)) => both.core.has(name),
             _ => unreachable!(),
         }
     }
@@ -270,8 +270,8 @@ impl<D: Disk + Drop, T: Invariants + Drop, S: StoredSteps + Drop> World<D, T, S>
         ensures { IsAnswered self.old (Event.Turn attempt) result self.new }
     {
         match &self.held {
-            Some(Held::With(session)) => {
-                self.attempts[attempt as usize].turn(&self.steps, &session.core)
+            Some(Held::With(both)) => {
+                self.attempts[attempt as usize].turn(&self.steps, &both.core)
             }
             _ => Reply::Fault(Fault::Closed),
         }
@@ -283,9 +283,7 @@ impl<D: Disk + Drop, T: Invariants + Drop, S: StoredSteps + Drop> World<D, T, S>
         ensures { IsAnswered self.old (Event.Settle attempt) result self.new }
     {
         match &mut self.held {
-            Some(Held::With(session)) => session.settle_attempt(
-                &mut self.attempts[attempt as usize],
-            ),
+            Some(Held::With(both)) => both.settle_attempt(&mut self.attempts[attempt as usize]),
             _ => Reply::Fault(Fault::Closed),
         }
     }
@@ -295,7 +293,7 @@ impl<D: Disk + Drop, T: Invariants + Drop, S: StoredSteps + Drop> World<D, T, S>
         ensures { IsAnswered self.old Event.Flush result self.new }
     {
         match &mut self.held {
-            Some(Held::With(session)) => match session.flush() {
+            Some(Held::With(both)) => match both.flush() {
                 Ok(durable) => Reply::Durable(durable),
                 Err(fault) => Reply::Fault(fault),
             },
@@ -308,7 +306,7 @@ impl<D: Disk + Drop, T: Invariants + Drop, S: StoredSteps + Drop> World<D, T, S>
         ensures { IsAnswered self.old Event.Checkpoint result self.new }
     {
         match &mut self.held {
-            Some(Held::With(session)) => match session.checkpoint() {
+            Some(Held::With(both)) => match both.checkpoint() {
                 Ok(()) => Reply::Checkpointed,
                 Err(fault) => Reply::Fault(fault),
             },
@@ -321,12 +319,12 @@ impl<D: Disk + Drop, T: Invariants + Drop, S: StoredSteps + Drop> World<D, T, S>
         ensures { IsAnswered self.now Event.Look result self.now }
     {
         match &self.held {
-            Some(Held::With(session)) => Reply::Looked(session.core.durable()),
+            Some(Held::With(both)) => Reply::Looked(both.core.durable()),
             _ => Reply::Fault(Fault::Closed),
         }
     }
 
-    // Drops the session and what the attempts hold, and opens the device again.
+    // Drops the core, the journal and what the attempts hold, and opens the device again.
     fn reopen(&mut self) -> Reply
         ensures { IsAnswered self.old Event.Reopen result self.new }
     {
@@ -337,9 +335,9 @@ impl<D: Disk + Drop, T: Invariants + Drop, S: StoredSteps + Drop> World<D, T, S>
         let (disk, table) = self.held.take().unwrap().into_parts();
         match Opening::open(self.alloc, disk, layout.vars, layout.slots, table) {
             Ok(opening) => {
-                let (session, _) = Session::begin(opening);
-                let count = session.core.count();
-                self.held = Some(Held::With(session));
+                let (both, _) = CoreAndJournal::of(opening);
+                let count = both.core.count();
+                self.held = Some(Held::With(both));
                 Reply::Opened(count)
             }
             Err((fault, disk, table)) => {

@@ -11,8 +11,8 @@ use tmem_image::{ALL_PAGES, ImageRoom, ImageState, choose, load, write_spare};
 use tmem_journal::{Journal, Layout, format};
 use tmem_state::{NameSet, State, Version};
 
-/// An act, with what it is answered, or a mark between acts. Those of a session are for a journal that is open, all others for a
-/// device.
+/// An act, with what it is answered, or the beginning of a case or a row. Those of a journal are for one that is open, all others
+/// for a device.
 #[derive(Clone, Copy)]
 pub(super) enum Act<'a> {
     /// Begins a case of this name. The acts up to its first row are done first in each of its rows.
@@ -67,35 +67,35 @@ pub(super) enum Act<'a> {
     Puts(u8, u64, Result<(), &'a str>),
     /// The generation of a copy of the image, which holds what formatting wrote where it is 1, and else `state`.
     Loads(u8, Result<u64, &'a str>),
-    /// A session is begun for so many variables and slots, and so many transactions are found. Where it is refused, the
+    /// A journal is opened for so many variables and slots, and so many transactions are found. Where it is refused, the
     /// device is handed back.
     Opens(u16, u16, Result<u64, &'a str>),
-    /// In a session: a batch of one record is flushed, which writes a number to variable 0.
+    /// Of an open journal: a batch of one record is flushed, which writes a number to variable 0.
     Flushes(i64, Result<u64, &'a str>),
-    /// In a session: a batch of one record is flushed, which writes a number to a variable.
+    /// Of an open journal: a batch of one record is flushed, which writes a number to a variable.
     FlushesTo(u16, i64, Result<u64, &'a str>),
-    /// In a session: a batch of one record is flushed, which writes this number to each of two variables.
+    /// Of an open journal: a batch of one record is flushed, which writes this number to each of two variables.
     FlushesBoth(u16, u16, i64, Result<u64, &'a str>),
-    /// In a session: a batch of two records is flushed, each of which writes this number to one variable.
+    /// Of an open journal: a batch of two records is flushed, each of which writes this number to one variable.
     FlushesTwo(u16, u16, i64, Result<u64, &'a str>),
-    /// In a session: a batch of one record is flushed, which checks this name and writes nothing.
+    /// Of an open journal: a batch of one record is flushed, which checks this name and writes nothing.
     FlushesName(&'a str, Result<u64, &'a str>),
-    /// In a session: batches are flushed until there are so many, each over another variable, with a checkpoint whenever the log
+    /// Of an open journal: batches are flushed until there are so many, each over another variable, with a checkpoint whenever the log
     /// is full.
     FlushesRun(u16),
-    /// In a session.
+    /// Of an open journal.
     Checkpoints(Result<(), &'a str>),
-    /// In a session: so many transactions are durable, with this number in variable 0.
+    /// Of an open journal: so many transactions are durable, with this number in variable 0.
     Holds(u64, i64),
-    /// In a session: variables have these numbers.
+    /// Of an open journal: variables have these numbers.
     HoldsAll(&'a [(u16, i64)]),
-    /// In a session: these names are registered, in this order, and no others.
+    /// Of an open journal: these names are registered, in this order, and no others.
     HoldsNames(&'a [&'a str]),
-    /// In a session: each variable has what a run of so many batches leaves in it.
+    /// Of an open journal: each variable has what a run of so many batches leaves in it.
     HoldsRun(u16),
-    /// Whether a session was closed by a failure.
+    /// Whether the journal was closed by a failure.
     IsClosed(bool),
-    /// Ends a session.
+    /// Lets go of the journal.
     Closes,
 }
 
@@ -105,9 +105,9 @@ pub(super) type Device = CountDisk<SimDisk>;
 /// Between two acts.
 #[derive(Drop)]
 struct Store {
-    // of no byte while there is a session, which has the device then
+    // of no byte while a journal is open, which has the device then
     disk: Device,
-    session: Option<Journal<Device>>,
+    journal: Option<Journal<Device>>,
 }
 
 /// Does what the cases say, each row on a store of its own, and fails where an act is answered otherwise.
@@ -139,7 +139,7 @@ fn each_case_has_a_row(acts: &[Act]) -> bool {
     has_row
 }
 
-/// The name of the first case, the index of the mark of its first row, and the first act there that is answered otherwise.
+/// The name of the first case, the index of its first row, and the first act there that is answered otherwise.
 fn first_other<'a>(alloc: Global, acts: &[Act<'a>]) -> Option<(&'a str, usize, usize)> {
     let mut case = acts;
     let mut name = "";
@@ -167,7 +167,7 @@ fn other_in_row(alloc: Global, case: &[Act], row: &[Act]) -> Option<usize> {
     };
     let mut store = Store {
         disk,
-        session: None,
+        journal: None,
     };
     match differing_in(alloc, &mut store, case) {
         None => differing_in(alloc, &mut store, row),
@@ -175,7 +175,7 @@ fn other_in_row(alloc: Global, case: &[Act], row: &[Act]) -> Option<usize> {
     }
 }
 
-/// The first of the acts up to the next mark that is answered otherwise.
+/// The first of the acts up to the next row or case that is answered otherwise.
 fn differing_in(alloc: Global, store: &mut Store, acts: &[Act]) -> Option<usize> {
     for (index, act) in acts.iter().enumerate() {
         if matches!(act, Act::Case(_) | Act::Row) {
@@ -193,14 +193,14 @@ fn is_so(alloc: Global, store: &mut Store, act: &Act) -> bool {
     match act {
         Act::Opens(vars, slots, answer) => is_opened(alloc, store, *vars, *slots, *answer),
         Act::Closes => is_ended(store),
-        _ => match &mut store.session {
-            Some(journal) => is_so_of_session(alloc, journal, act),
+        _ => match &mut store.journal {
+            Some(journal) => is_so_of_journal(alloc, journal, act),
             None => is_so_of_device(alloc, &mut store.disk, act),
         },
     }
 }
 
-/// Whether opening a session is answered so.
+/// Whether opening a journal is answered so.
 fn is_opened(
     alloc: Global,
     store: &mut Store,
@@ -208,7 +208,7 @@ fn is_opened(
     slots: u16,
     answer: Result<u64, &str>,
 ) -> bool {
-    if store.session.is_some() {
+    if store.journal.is_some() {
         return false;
     }
     let Ok(none) = made(alloc, 0) else {
@@ -217,8 +217,9 @@ fn is_opened(
     let disk = mem::replace(&mut store.disk, none);
     match Journal::open(alloc, disk, vars, slots) {
         Ok(journal) => {
-            let is_so = is_session(&journal, vars, slots) && is_same(Ok(journal.count()), answer);
-            store.session = Some(journal);
+            let is_so = is_journal_of(&journal, vars, slots)
+                && is_same(Ok(journal.count()), answer);
+            store.journal = Some(journal);
             is_so
         }
         Err((fault, disk)) => {
@@ -229,14 +230,14 @@ fn is_opened(
 }
 
 /// Whether a journal is open, and for so many variables and slots.
-fn is_session(journal: &Journal<Device>, vars: u16, slots: u16) -> bool {
+fn is_journal_of(journal: &Journal<Device>, vars: u16, slots: u16) -> bool {
     let numbers = journal.layout();
     numbers.vars == vars && numbers.slots == slots && !journal.is_closed()
 }
 
-/// Ends a session, if there is one.
+/// Lets go of the journal, if one is open.
 fn is_ended(store: &mut Store) -> bool {
-    match store.session.take() {
+    match store.journal.take() {
         Some(journal) => {
             store.disk = journal.into_disk();
             true
@@ -245,7 +246,7 @@ fn is_ended(store: &mut Store) -> bool {
     }
 }
 
-fn is_so_of_session(alloc: Global, journal: &mut Journal<Device>, act: &Act) -> bool {
+fn is_so_of_journal(alloc: Global, journal: &mut Journal<Device>, act: &Act) -> bool {
     match act {
         Act::Checkpoints(answer) => is_checkpointed(journal, *answer),
         Act::Holds(count, number) => holds(journal, *count, *number),
@@ -700,7 +701,7 @@ pub(super) fn are_told_apart(alloc: Global, acts: &[Act], others: &[Act]) -> boo
     };
     let mut store = Store {
         disk,
-        session: None,
+        journal: None,
     };
     if differing_in(alloc, &mut store, acts).is_some() {
         return false;

@@ -61,7 +61,7 @@ static PAGES: &[Act<'static>] = &[
     Opens(128, 2, Ok(2)),
     HoldsAll(&[(0, 1), (1, 0), (63, 0), (64, 1), (65, 0), (127, 0)]),
     // a name stands in the header
-    Case("a batch of checks alone marks no page"),
+    Case("after a batch of checks alone a checkpoint writes no page"),
     Makes(14848),
     Formats(128, 2, Ok(())),
     Row,
@@ -96,7 +96,7 @@ static PAGES: &[Act<'static>] = &[
     Opens(128, 2, Ok(1)),
     HoldsNames(&["ab"]),
     // slot 1 begins at 10752
-    Case("a batch that the log does not take marks no page"),
+    Case("a batch that the log does not take adds no page to the next checkpoint"),
     Makes(14848),
     Formats(128, 2, Ok(())),
     Row,
@@ -133,7 +133,7 @@ static PAGES: &[Act<'static>] = &[
     Opens(128, 2, Ok(2)),
     HoldsAll(&[(63, 2), (64, 0)]),
     // the pages of one record, and those of two
-    Case("each page that a batch writes is marked"),
+    Case("the next checkpoint writes each page that a batch wrote to"),
     Makes(14848),
     Formats(128, 2, Ok(())),
     Row,
@@ -196,7 +196,7 @@ static LARGE: &[Act<'static>] = &[
     Closes,
     Made(None, 44, 12),
     MadeBytes(23075),
-    // the next session knows nothing of the pages
+    // the next journal knows nothing of the pages
     Row,
     Opens(1024, 64, Ok(0)),
     Checkpoints(Ok(())),

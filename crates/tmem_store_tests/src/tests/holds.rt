@@ -3,8 +3,8 @@ use super::moves::Answer::{Committed, Done, Holds, Nothing, Number, Refused, Val
 use super::moves::Move::{
     Acquire, AcquireWithin, AddWithRoom, Attempt, Await, AwaitHeld, AwaitWithin, Checkpoint,
     Commit, CommitDurable, CommitWithin, Count, FaultOf, Flush, FlushWithRoom, HasInvariant,
-    HoldSteps, HoldSyncs, Look, LooksAtMost, NewPass, Peek, Release, ReleasePass, Settle, Shut,
-    Sleep, TryCommit, ValuesAre, Vouch,
+    HoldSteps, HoldSyncs, Look, NewPass, Peek, Release, ReleasePass, Settle, Shut, Sleep,
+    TriesAtMost, TryCommit, ValuesAre, Vouch,
 };
 use super::moves::{Answer, Refusal, Task};
 use super::scenes::Line::{After, Before, First, Last, Scene, Second, Slots, Third};
@@ -38,7 +38,7 @@ static SCENES: &[Line<'static>] = &[
     Last(Acquire, Done),
     Last(CommitWithin(Task::AddOne, 60_000), Committed(6)),
     Last(AddWithRoom(1), Number(1)),
-    Last(LooksAtMost(8), Holds(true)),
+    Last(TriesAtMost(8), Holds(true)),
     Last(Release, Done),
     After(Look, Number(1)),
     Scene("settle while the sync of a checkpoint is held"),
@@ -62,7 +62,7 @@ static SCENES: &[Line<'static>] = &[
     Last(Acquire, Done),
     Last(CommitWithin(Task::AddOne, 60_000), Committed(6)),
     Last(AddWithRoom(1), Number(1)),
-    Last(LooksAtMost(8), Holds(true)),
+    Last(TriesAtMost(8), Holds(true)),
     Last(Shut, Done),
     Last(Release, Done),
     // a checkpoint makes nothing durable that waits
@@ -218,7 +218,7 @@ static SCENES: &[Line<'static>] = &[
     Last(AwaitHeld(3), Done),
     Last(Release, Done),
     Last(Sleep(100), Done),
-    Last(LooksAtMost(3), Holds(true)),
+    Last(TriesAtMost(3), Holds(true)),
     Last(TryCommit(Task::Write(2, 1)), Committed(3)),
     After(Peek(0), Value(8)),
     Scene("a vouch that waits keeps no other call waiting"),

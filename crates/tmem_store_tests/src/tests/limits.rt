@@ -2,7 +2,7 @@
 use super::moves::Answer::{Committed, Done, Holds, Late, Number, Refused, Retried, Saw};
 use super::moves::Move::{
     Acquire, AcquireWithin, AwaitHeld, AwaitWithin, Close, CommitWithin, Count, Flush, HoldSteps,
-    HoldSyncs, LooksAtMost, NeedsAtMost, NewPasses, Release, ReleasePass, Shut, Sleep, TryCommit,
+    HoldSyncs, NeedsAtMost, NewPasses, Release, ReleasePass, Shut, Sleep, TriesAtMost, TryCommit,
 };
 use super::moves::{Answer, Refusal, Task};
 use super::scenes::Line::{
@@ -31,7 +31,7 @@ static SCENES: &[Line<'static>] = &[
     Second(CommitWithin(Task::NeedOne, 30), Retried),
     Third(AwaitWithin(0, 0), Late),
     // each looked once before it slept, once or twice when the time was over, and once more after the last attempt
-    After(LooksAtMost(16), Holds(true)),
+    After(TriesAtMost(16), Holds(true)),
     After(NeedsAtMost(2), Holds(true)),
     After(Count, Number(0)),
     Scene("a wait with a limit ends with a flush or a commit"),
@@ -92,7 +92,7 @@ static SCENES: &[Line<'static>] = &[
     Third(AcquireWithin(900), Done),
     Last(Sleep(500), Done),
     // each of the three has looked, and sleeps
-    Last(LooksAtMost(8), Holds(true)),
+    Last(TriesAtMost(8), Holds(true)),
     Last(TryCommit(Task::Write(2, 1)), Committed(0)),
     Last(Flush, Number(1)),
     Scene("a wait with a limit lasts for more than a half of it"),
@@ -110,7 +110,7 @@ static SCENES: &[Line<'static>] = &[
     First(CommitWithin(Task::NeedOne, u64::MAX), Saw(1, ONE)),
     Second(AwaitWithin(0, u64::MAX), Done),
     Last(Sleep(200), Done),
-    Last(LooksAtMost(4), Holds(true)),
+    Last(TriesAtMost(4), Holds(true)),
     Last(TryCommit(Task::Write(2, 1)), Committed(0)),
     Last(Flush, Number(1)),
     Scene("a clock that cannot be read ends a wait"),

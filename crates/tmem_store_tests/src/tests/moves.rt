@@ -139,9 +139,9 @@ pub(super) enum Move {
     /// Whether so many turns of a pace began with a whole batch.
     FullTurnsAre(u64),
     /// Whether the calls that wait have looked so often at the most.
-    LooksAtMost(u64),
+    TriesAtMost(u64),
     /// Whether they have looked so often at the least.
-    LooksAtLeast(u64),
+    TriesAtLeast(u64),
 }
 
 /// Which fault a move is refused with, without what some faults carry: so a line is plain data, and stands in a table.

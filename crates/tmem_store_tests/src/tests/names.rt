@@ -84,12 +84,12 @@ fn commits_eight<W: Played>(
     Ok(commit(world, tx) == wanted)
 }
 
-/// Whether there is a session, with 64 names.
+/// Whether there is a core, with 64 names.
 pub(super) fn has_all<W: Played>(world: &W) -> Result<bool, Fault> {
     are_registered(world, true)
 }
 
-/// Whether there is a session, and each of the 64 names is registered, or else none.
+/// Whether there is a core, and each of the 64 names is registered, or else none.
 fn are_registered<W: Played>(world: &W, wanted: bool) -> Result<bool, Fault> {
     for n in 0..64 {
         if world.knows(&numbered(n)?) != Some(wanted) {
@@ -99,7 +99,7 @@ fn are_registered<W: Played>(world: &W, wanted: bool) -> Result<bool, Fault> {
     Ok(true)
 }
 
-/// Whether there is a session, with no name.
+/// Whether there is a core, with no name.
 pub(super) fn has_none<W: Played>(world: &W) -> Result<bool, Fault> {
     are_registered(world, false)
 }

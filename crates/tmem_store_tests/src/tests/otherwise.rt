@@ -8,7 +8,7 @@ use std::time::Duration;
 use tmem_fault::{Fault, Name};
 use tmem_world::{Event, Reply};
 
-/// A session in which the last name is registered exactly where the others are not.
+/// A world in which the last name is registered exactly where the others are not.
 #[derive(Drop)]
 struct AllButLast {
     are_registered: bool,

@@ -1,9 +1,9 @@
 //! Passes that callers share.
 use super::moves::Answer::{Committed, Done, Holds, Late, Number, Refused, Value};
 use super::moves::Move::{
-    Acquire, AcquireWithin, AwaitHeld, Checkpoint, Close, Commit, Flush, HoldSteps, Look,
-    LooksAtLeast, LooksAtMost, NewPass, NewPasses, OtherPass, Peek, Release, ReleasePass, Seen,
-    Shut, Sleep, TryCommit,
+    Acquire, AcquireWithin, AwaitHeld, Checkpoint, Close, Commit, Flush, HoldSteps, Look, NewPass,
+    NewPasses, OtherPass, Peek, Release, ReleasePass, Seen, Shut, Sleep, TriesAtLeast, TriesAtMost,
+    TryCommit,
 };
 use super::moves::{Answer, Refusal, Task};
 use super::scenes::Line::{
@@ -73,8 +73,8 @@ static SCENES: &[Line<'static>] = &[
     Second(Acquire, Done),
     Second(Peek(1), Value(2)),
     Last(Sleep(1), Done),
-    After(LooksAtMost(8), Holds(true)),
-    After(LooksAtLeast(1), Holds(true)),
+    After(TriesAtMost(8), Holds(true)),
+    After(TriesAtLeast(1), Holds(true)),
     Scene("a thread waits for a pass that was not the pools"),
     Before(NewPasses(28), Number(28)),
     First(ReleasePass, Done),
@@ -87,7 +87,7 @@ static SCENES: &[Line<'static>] = &[
     Second(Acquire, Done),
     Second(Peek(1), Value(2)),
     Last(Sleep(1), Done),
-    After(LooksAtMost(8), Holds(true)),
+    After(TriesAtMost(8), Holds(true)),
     Scene("a thread waits for a pass for no longer than a time"),
     Before(NewPasses(27), Number(27)),
     Before(HoldSteps(1), Done),
@@ -105,7 +105,7 @@ static SCENES: &[Line<'static>] = &[
     Second(AcquireWithin(LONG), Done),
     Second(Peek(1), Value(2)),
     Last(Sleep(1), Done),
-    After(LooksAtMost(8), Holds(true)),
+    After(TriesAtMost(8), Holds(true)),
     Scene("a shut wakes each thread that waits for a pass"),
     Before(NewPasses(26), Number(26)),
     // the last one; it is never released
@@ -159,7 +159,7 @@ static SCENES: &[Line<'static>] = &[
     FourMore(ReleasePass, Done),
     Last(Sleep(1), Done),
     // each looked once before it slept, and found a pass when it was woken
-    After(LooksAtMost(6), Holds(true)),
+    After(TriesAtMost(6), Holds(true)),
     Scene("a fault wakes each thread that waits for a pass"),
     FailSync(2),
     Before(NewPasses(26), Number(26)),
@@ -232,13 +232,13 @@ static ORDERS: &[Line<'static>] = &[
     Last(AwaitHeld(3), Done),
     Last(Sleep(600), Done),
     Last(Release, Done),
-    Scene("to count looks lets go of the core before it takes the pool"),
+    Scene("to count tries lets go of the core before it takes the pool"),
     Before(TryCommit(Task::Write(0, 1)), Committed(0)),
     Before(HoldSteps(3), Done),
     First(Commit(Task::AddOne), Committed(3)),
     Second(AwaitHeld(3), Done),
     Second(Sleep(100), Done),
-    Second(LooksAtMost(8), Holds(true)),
+    Second(TriesAtMost(8), Holds(true)),
     Third(AwaitHeld(3), Done),
     Third(Sleep(300), Done),
     Third(Acquire, Done),

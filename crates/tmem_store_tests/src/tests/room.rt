@@ -2,8 +2,8 @@
 use super::moves::Answer::{Committed, Done, Holds, Number, Refused, Saw, Value};
 use super::moves::Move::{
     AddWithRoom, AddsAtMost, Await, AwaitHeld, Close, CommitDurable, FaultOf, Fill, Flush,
-    HoldSyncs, Look, LooksAtLeast, LooksAtMost, NewPass, Peek, Release, RunFlusher, Seen, Shut,
-    Sleep, TryCommit,
+    HoldSyncs, Look, NewPass, Peek, Release, RunFlusher, Seen, Shut, Sleep, TriesAtLeast,
+    TriesAtMost, TryCommit,
 };
 use super::moves::{Answer, Refusal, Task};
 use super::scenes::Line::{After, Before, FailSync, First, FirstThree, Last, Scene, Second, Third};
@@ -26,8 +26,8 @@ static SCENES: &[Line<'static>] = &[
     Last(Sleep(100), Done),
     // they have not added yet
     Last(Peek(0), Value(1)),
-    Last(LooksAtMost(12), Holds(true)),
-    Last(LooksAtLeast(3), Holds(true)),
+    Last(TriesAtMost(12), Holds(true)),
+    Last(TriesAtLeast(3), Holds(true)),
     Last(AddsAtMost(12), Holds(true)),
     Last(Flush, Number(64)),
     After(Peek(0), Value(4)),

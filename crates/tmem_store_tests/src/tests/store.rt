@@ -528,8 +528,8 @@ fn call_to_ask<
         Move::Peek(var) => peek(front, stage, var),
         Move::LogIs(want) => Answer::Holds(counts_of(front.log(stage.rt)) == want),
         Move::FaultOf => Answer::fault(front.fault(stage.rt)),
-        Move::LooksAtMost(most) => Answer::Holds(front.looks(stage.rt) <= most),
-        Move::LooksAtLeast(least) => Answer::Holds(front.looks(stage.rt) >= least),
+        Move::TriesAtMost(most) => Answer::Holds(front.tries(stage.rt) <= most),
+        Move::TriesAtLeast(least) => Answer::Holds(front.tries(stage.rt) >= least),
         other => stage.answer(other),
     }
 }

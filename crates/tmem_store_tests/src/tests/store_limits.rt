@@ -23,9 +23,9 @@ const VARS: u16 = 1024;
 
 const SLOTS: u16 = 64;
 
-/// What is done in a session, over the device that the one before it left.
+/// What a world or a front does on the device that the one before it left.
 #[derive(Clone, Copy)]
-enum Session {
+enum Life {
     /// Registers 64 names and writes, until 64 records wait, flushes them, and opens the device again.
     Fills,
     /// Finds them in the log. After a checkpoint it finds them in an image.
@@ -85,36 +85,31 @@ fn retire_and_reopen<W: Played>(
     Ok(())
 }
 
-/// A session of a world.
-fn play<W: Played>(
-    rt: &impl Abort,
-    alloc: Global,
-    world: &mut W,
-    session: Session,
-) -> Result<(), Fault> {
-    match session {
-        Session::Fills => {
+/// Plays a life in a world.
+fn play<W: Played>(rt: &impl Abort, alloc: Global, world: &mut W, life: Life) -> Result<(), Fault> {
+    match life {
+        Life::Fills => {
             fill(rt, alloc, world)?;
             flush_and_reopen(rt, alloc, world)
         }
-        Session::Retires => retire_and_reopen(rt, alloc, world),
+        Life::Retires => retire_and_reopen(rt, alloc, world),
         _ => checkpoint_and_reopen(rt, alloc, world),
     }
 }
 
-/// Opens the device as a session does that is no front, plays it, and hands the device back.
+/// Opens the device as a world, plays a life there, and hands the device back.
 fn play_on<T: Invariants + Drop, S: StoredSteps + Drop>(
     rt: &impl Abort,
     alloc: Global,
     disk: SimDisk,
     table: T,
     steps: S,
-    session: Session,
+    life: Life,
 ) -> Result<SimDisk, Fault>
     requires { T.vars table ≡ VARS }
 {
     let mut world = open_world(alloc, disk, table, steps)?;
-    play(rt, alloc, &mut world, session)?;
+    play(rt, alloc, &mut world, life)?;
     Ok(world.into_disk())
 }
 
@@ -148,29 +143,29 @@ fn find_by_front<T: Invariants + Drop, S: StoredSteps + Drop>(
     }
 }
 
-/// A session of any kind.
-fn play_session<T: Invariants + Drop, S: StoredSteps + Drop>(
+/// Plays a life of any kind.
+fn play_life<T: Invariants + Drop, S: StoredSteps + Drop>(
     rt: &impl Abort,
     alloc: Global,
     disk: SimDisk,
     table: T,
     steps: S,
-    session: Session,
+    life: Life,
 ) -> Result<SimDisk, Fault>
     requires { T.vars table ≡ VARS }
 {
-    match session {
-        Session::IsFront => find_by_front(alloc, disk, table, steps),
+    match life {
+        Life::IsFront => find_by_front(alloc, disk, table, steps),
         other => play_on(rt, alloc, disk, table, steps, other),
     }
 }
 
-/// A session over 64 invariants, each of which is that the last of sixteen variables is not negative.
+/// Plays a life over 64 invariants, each of which is that the last of sixteen variables is not negative.
 fn play_over_all(
     rt: &impl Abort,
     alloc: Global,
     disk: SimDisk,
-    session: Session,
+    life: Life,
 ) -> Result<SimDisk, Fault> {
     let mut entries = Vec::new(alloc);
     for n in 0..64 {
@@ -185,14 +180,14 @@ fn play_over_all(
     }
     let table = Table::of(alloc, entries, VARS)?;
     let steps = Steps::of(Vec::new(alloc))?;
-    play_session(rt, alloc, disk, table, steps, session)
+    play_life(rt, alloc, disk, table, steps, life)
 }
 
-/// Sessions, one after another, on a new device.
-fn play_sessions(rt: &impl Abort, alloc: Global, sessions: &[Session]) -> Result<(), Fault> {
+/// Plays them, one after another, on a new device.
+fn play_lives(rt: &impl Abort, alloc: Global, lives: &[Life]) -> Result<(), Fault> {
     let mut disk = formatted(alloc, VARS, SLOTS)?;
-    for session in sessions {
-        disk = play_over_all(rt, alloc, disk, *session)?;
+    for life in lives {
+        disk = play_over_all(rt, alloc, disk, *life)?;
     }
     Ok(())
 }
@@ -200,15 +195,15 @@ fn play_sessions(rt: &impl Abort, alloc: Global, sessions: &[Session]) -> Result
 // at: 1024 variables, 64 slots, 64 records, 64 names, 64 invariants, 16 footprint variables, 8 checks, 8 retirements
 #[test]
 fn a_store_at_its_limits_is_found_in_the_log_and_in_an_image(rt: HostRuntime) -> Result<(), Fail> {
-    let sessions = [Session::Fills, Session::Checkpoints, Session::Retires];
-    play_sessions(&rt, rt.alloc(), &sessions)?;
+    let lives = [Life::Fills, Life::Checkpoints, Life::Retires];
+    play_lives(&rt, rt.alloc(), &lives)?;
     Ok(())
 }
 
 // at: 1024 variables, 64 slots, 64 records, 64 names, 64 invariants, 16 footprint variables
 #[test]
 fn a_store_at_its_limits_is_found_by_a_front(rt: HostRuntime) -> Result<(), Fail> {
-    play_sessions(&rt, rt.alloc(), &[Session::Fills, Session::IsFront])?;
+    play_lives(&rt, rt.alloc(), &[Life::Fills, Life::IsFront])?;
     Ok(())
 }
 

@@ -1,7 +1,7 @@
 //! Threads that add over one front.
 use super::moves::Answer::{Done, Holds, Number, Value};
 use super::moves::Move::{
-    Acquire, Add, AddWithRoom, Count, Flush, LooksAtLeast, Peek, ReleasePass, Sleep,
+    Acquire, Add, AddWithRoom, Count, Flush, Peek, ReleasePass, Sleep, TriesAtLeast,
 };
 use super::scenes::Line::{After, All, Before, Crowd, Scene, Vars};
 use super::scenes::{Line, play};
@@ -29,7 +29,7 @@ static SCENES: &[Line<'static>] = &[
     Crowd(Add(1), Number(1)),
     Crowd(ReleasePass, Done),
     After(Acquire, Done),
-    After(LooksAtLeast(1), Holds(true)),
+    After(TriesAtLeast(1), Holds(true)),
     After(Peek(0), Value(256)),
     After(Count, Number(256)),
     After(Flush, Number(64)),

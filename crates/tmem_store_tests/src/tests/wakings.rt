@@ -2,8 +2,8 @@
 use super::moves::Answer::{Committed, Done, Holds, Number, Refused, Saw};
 use super::moves::Move::{
     Acquire, Attempt, Await, Checkpoint, Commit, CommitAndFlush, CommitDurable, CommitWithin, Fill,
-    Flush, Look, LooksAtLeast, LooksAtMost, NeedsAtMost, NewPass, NewPasses, PassOn, PassOnWithin,
-    ReleasePass, RunFlusher, Settle, Shut, Sleep, TryCommit,
+    Flush, Look, NeedsAtMost, NewPass, NewPasses, PassOn, PassOnWithin, ReleasePass, RunFlusher,
+    Settle, Shut, Sleep, TriesAtLeast, TriesAtMost, TryCommit,
 };
 use super::moves::{Answer, Refusal, Task};
 use super::scenes::Line::{
@@ -135,7 +135,7 @@ static SCENES: &[Line<'static>] = &[
     // variable 0 is written, and variable 2 is waited for
     Last(Fill(50), Number(50)),
     Last(Sleep(50), Done),
-    Last(LooksAtMost(3), Holds(true)),
+    Last(TriesAtMost(3), Holds(true)),
     Last(NeedsAtMost(1), Holds(true)),
     Last(TryCommit(Task::Write(2, 1)), Committed(50)),
     Scene("a commit wakes no thread that read a variable near it"),
@@ -148,7 +148,7 @@ static SCENES: &[Line<'static>] = &[
     Last(TryCommit(Task::Write(18, 1)), Committed(3)),
     Last(TryCommit(Task::Write(34, 1)), Committed(4)),
     Last(Sleep(50), Done),
-    Last(LooksAtMost(3), Holds(true)),
+    Last(TriesAtMost(3), Holds(true)),
     Last(NeedsAtMost(1), Holds(true)),
     Last(TryCommit(Task::Write(2, 1)), Committed(5)),
     Scene("a commit that retires too wakes each thread that retries"),
@@ -160,23 +160,23 @@ static SCENES: &[Line<'static>] = &[
     Last(Sleep(100), Done),
     Last(Fill(50), Number(50)),
     Last(Sleep(50), Done),
-    Last(LooksAtMost(2), Holds(true)),
+    Last(TriesAtMost(2), Holds(true)),
     Last(Flush, Number(50)),
     Scene("a flush wakes no thread that retries"),
     First(Commit(Task::NeedOne), Saw(21, ONE)),
     Last(Sleep(100), Done),
     Last(CommitAndFlush(20), Number(20)),
     Last(Sleep(50), Done),
-    Last(LooksAtMost(3), Holds(true)),
+    Last(TriesAtMost(3), Holds(true)),
     Last(TryCommit(Task::Write(2, 1)), Committed(20)),
-    Scene("who awaits its own commit looks and sleeps"),
+    Scene("who awaits its own commit tries and sleeps"),
     First(CommitDurable(Task::Write(0, 1)), Committed(0)),
-    // before it looks it lets other threads run a hundred times, which takes a while on a busy machine
+    // before it tries it lets other threads run a hundred times, which takes a while on a busy machine
     Last(Sleep(1000), Done),
-    Last(LooksAtLeast(1), Holds(true)),
-    Last(LooksAtMost(3), Holds(true)),
+    Last(TriesAtLeast(1), Holds(true)),
+    Last(TriesAtMost(3), Holds(true)),
     Last(Flush, Number(1)),
-    Scene("a short transaction that retries looks and sleeps"),
+    Scene("a short transaction that retries tries and sleeps"),
     // both are short
     First(
         Commit(Task::WaitForEither(1, 70)),
@@ -189,8 +189,8 @@ static SCENES: &[Line<'static>] = &[
     Last(Sleep(500), Done),
     Last(Fill(50), Number(50)),
     Last(Sleep(50), Done),
-    Last(LooksAtLeast(2), Holds(true)),
-    Last(LooksAtMost(6), Holds(true)),
+    Last(TriesAtLeast(2), Holds(true)),
+    Last(TriesAtMost(6), Holds(true)),
     Last(TryCommit(Task::Write(70, 1)), Committed(50)),
     Scene("threads that wait look once"),
     First(Await(0), CLOSED),
@@ -198,8 +198,8 @@ static SCENES: &[Line<'static>] = &[
     Third(RunFlusher(1), Done),
     Last(Sleep(1000), Done),
     // once each, and a few times more where a thread is woken for nothing
-    Last(LooksAtMost(12), Holds(true)),
-    Last(LooksAtLeast(3), Holds(true)),
+    Last(TriesAtMost(12), Holds(true)),
+    Last(TriesAtLeast(3), Holds(true)),
     Last(Shut, Done),
     Scene("a commit wakes whom it writes to"),
     // so the threads have the last four passes
@@ -209,10 +209,10 @@ static SCENES: &[Line<'static>] = &[
     Third(Commit(Task::NeedEither(3, 71)), Saw(3, ONE)),
     Last(Sleep(100), Done),
     // each has looked once, and sleeps
-    Last(LooksAtMost(3), Holds(true)),
+    Last(TriesAtMost(3), Holds(true)),
     Last(TryCommit(Task::WriteBoth(4, 70, 1)), Committed(0)),
     Last(Sleep(100), Done),
-    Last(LooksAtMost(4), Holds(true)),
+    Last(TriesAtMost(4), Holds(true)),
     Last(TryCommit(Task::WriteBoth(69, 8, 1)), Committed(1)),
     Last(Sleep(100), Done),
     Last(TryCommit(Task::Write(71, 1)), Committed(2)),
@@ -226,7 +226,7 @@ static SCENES: &[Line<'static>] = &[
     First(Commit(Task::Never), CLOSED),
     Last(Sleep(50), Done),
     Last(Fill(50), Number(50)),
-    Last(LooksAtMost(3), Holds(true)),
+    Last(TriesAtMost(3), Holds(true)),
     Last(Shut, Done),
     Scene("passes sixteen apart sleep apart"),
     // the pool has number 1, and three threads take 2 to 4
@@ -257,7 +257,7 @@ static SCENES: &[Line<'static>] = &[
     Last(Sleep(100), Done),
     Last(TryCommit(Task::Write(1, 4)), Committed(3)),
     Last(Sleep(100), Done),
-    Last(LooksAtMost(5), Holds(true)),
+    Last(TriesAtMost(5), Holds(true)),
     Last(TryCommit(Task::Write(2, 1)), Committed(4)),
     Scene("the last pass is woken"),
     Before(NewPasses(26), Number(26)),

@@ -62,7 +62,7 @@ pub(super) trait Played {
     fn play_list(&mut self, events: Vec<Event>) -> Result<Vec<Reply>, Fault>
         requires { All NamesAttempt events.items };
 
-    /// Whether a name is registered, where there is a session.
+    /// Whether a name is registered, where there is a core.
     fn knows(&self, name: &Name) -> Option<bool>;
 }
 

@@ -1,5 +1,5 @@
 use Rattle.std.proofs.Common.{length}
-use Rattle.tmem_gate.proofs.Laws.{by_write, by_look, looks, WritesWithin-trans}
+use Rattle.tmem_gate.proofs.Laws.{by_write, by_look, reads_only, WritesWithin-trans}
 use Rattle.tmem_gate.proofs.gate.write_and_sync.Goals as goal
 
 pub returns-clause-elsewhere : goal.returns-clause-elsewhere
@@ -9,4 +9,4 @@ returns-clause-elsewhere g c =
     let sync = c.sync.ensures in
     let device = g.met.D.Disk.is_device in
     WritesWithin-trans c.args.at n _ _ _ sync.call.model (by_write c.args.at n _ _ (device c.args.disk.now) write.call.model write.elsewhere write.crash write.time)
-    (by_look c.args.at n _ _ (device c.write_at.new.self) sync.call.model (looks _ _ sync.seen sync.crash sync.time))
+    (by_look c.args.at n _ _ (device c.write_at.new.self) sync.call.model (reads_only _ _ sync.seen sync.crash sync.time))

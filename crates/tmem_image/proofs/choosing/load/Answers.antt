@@ -49,14 +49,14 @@ returns-then-not-reads_open-clause-fits g c = tt
 pub returns-then-not-reads_open-clause-found : goal.returns-then-not-reads_open-clause-found
 returns-then-not-reads_open-clause-found g c = λ _. tt
 
-pub returns-in_err-bytes-clause-looks : goal.returns-in_err-bytes-clause-looks
-returns-in_err-bytes-clause-looks g c = c.read_piece.ensures.looks
+pub returns-in_err-bytes-clause-reads_only : goal.returns-in_err-bytes-clause-reads_only
+returns-in_err-bytes-clause-reads_only g c = c.read_piece.ensures.reads_only
 
-pub returns-then-not-reads_open-clause-looks : goal.returns-then-not-reads_open-clause-looks
-returns-then-not-reads_open-clause-looks g c = c.read_piece.ensures.looks
+pub returns-then-not-reads_open-clause-reads_only : goal.returns-then-not-reads_open-clause-reads_only
+returns-then-not-reads_open-clause-reads_only g c = c.read_piece.ensures.reads_only
 
-pub returns-clause-looks : goal.returns-clause-looks
-returns-clause-looks g c = c.read_piece.ensures.looks
+pub returns-clause-reads_only : goal.returns-clause-reads_only
+returns-clause-reads_only g c = c.read_piece.ensures.reads_only
 
 pub returns-then-not-reads_open-clause-refused : goal.returns-then-not-reads_open-clause-refused
 returns-then-not-reads_open-clause-refused g c = λ k v generation s holds.

@@ -6,7 +6,7 @@ use Rattle.tmem_fault.specs.declared.fault.Fault.TheVariants.{Device}
 use Rattle.tmem_gate.specs.Calls.{failures_after}
 use Rattle.tmem_gate.specs.Gate.{IsClosed}
 use Rattle.tmem_gate.proofs.Laws.{closed_along}
-use Rattle.tmem_image.proofs.Spared.{while_shut, Spares-look}
+use Rattle.tmem_image.proofs.Spared.{while_shut, Spares-read_only}
 use Rattle.tmem_image.proofs.spare.shut.Goals as goal
 
 pub returns-in-Ok-false-clause-spares : goal.returns-in-Ok-false-clause-spares
@@ -16,8 +16,8 @@ returns-in-Ok-false-clause-spares g c =
 
 pub returns-in-Ok-false-clause-closed : goal.returns-in-Ok-false-clause-closed
 returns-in-Ok-false-clause-closed g c =
-    let looks = c.in-Ok-false.ensures.looks c.in-Ok-false.field-0-test in
-    record { each = λ k d left. let before = c.close_if_open.ensures.call.model k in closed_along (c.requires.settled.each before d (looks.crash.each k d left) ∙ sym (ap (λ (l : List ℕ). slice_get l c.args.at) (looks.seen k))) (c.in-Ok-false.ensures.closed k) }
+    let reads_only = c.in-Ok-false.ensures.reads_only c.in-Ok-false.field-0-test in
+    record { each = λ k d left. let before = c.close_if_open.ensures.call.model k in closed_along (c.requires.settled.each before d (reads_only.crash.each k d left) ∙ sym (ap (λ (l : List ℕ). slice_get l c.args.at) (reads_only.seen k))) (c.in-Ok-false.ensures.closed k) }
 
 pub returns-in-Err-clause-spares : goal.returns-in-Err-clause-spares
 returns-in-Err-clause-spares g c =
@@ -27,16 +27,16 @@ returns-in-Err-clause-spares g c =
 pub returns-in-Ok-clause-spares : goal.returns-in-Ok-clause-spares
 returns-in-Ok-clause-spares g c =
     let it = c.close_if_open.ensures in
-    Spares-look c.args.at 1 _ _ (g.met.D.Disk.is_device c.close_if_open.new.disk) (while_shut _ _ c.args.at (g.met.D.Disk.is_device c.args.disk.now) c.requires.settled it.call.model it.within it.idle) _ c.sync.ensures.uses.model c.sync.ensures.looks
+    Spares-read_only c.args.at 1 _ _ (g.met.D.Disk.is_device c.close_if_open.new.disk) (while_shut _ _ c.args.at (g.met.D.Disk.is_device c.args.disk.now) c.requires.settled it.call.model it.within it.idle) _ c.sync.ensures.uses.model c.sync.ensures.reads_only
 
 pub returns-in-Err-sync-clause-spares : goal.returns-in-Err-sync-clause-spares
 returns-in-Err-sync-clause-spares g c =
     let it = c.close_if_open.ensures in
-    Spares-look c.args.at 1 _ _ (g.met.D.Disk.is_device c.close_if_open.new.disk) (while_shut _ _ c.args.at (g.met.D.Disk.is_device c.args.disk.now) c.requires.settled it.call.model it.within it.idle) _ c.sync.ensures.uses.model c.sync.ensures.looks
+    Spares-read_only c.args.at 1 _ _ (g.met.D.Disk.is_device c.close_if_open.new.disk) (while_shut _ _ c.args.at (g.met.D.Disk.is_device c.args.disk.now) c.requires.settled it.call.model it.within it.idle) _ c.sync.ensures.uses.model c.sync.ensures.reads_only
 
 pub returns-in-Ok-clause-closed : goal.returns-in-Ok-clause-closed
 returns-in-Ok-clause-closed g c =
-    LeavesOnly-synced _ (IsClosed c.args.at) c.in-Ok.ensures.synced (λ k. subst (λ (l : List ℕ). IsClosed c.args.at l) (sym (c.sync.ensures.looks.seen k)) (c.in-Ok-true.ensures.closed (c.sync.ensures.uses.model k)))
+    LeavesOnly-synced _ (IsClosed c.args.at) c.in-Ok.ensures.synced (λ k. subst (λ (l : List ℕ). IsClosed c.args.at l) (sym (c.sync.ensures.reads_only.seen k)) (c.in-Ok-true.ensures.closed (c.sync.ensures.uses.model k)))
 
 pub returns-in-Ok-false-clause-uses : goal.returns-in-Ok-false-clause-uses
 returns-in-Ok-false-clause-uses g c =

@@ -4,7 +4,7 @@ use Rattle.tmem_record.specs.Layout.{pages_of}
 use Rattle.tmem_record.specs.StandsAt.{StandsAt}
 use Rattle.tmem_gate.proofs.Laws.{WritesWithin-refl, WritesWithin-wider, WritesWithin-trans}
 use Rattle.tmem_image.specs.Pages.{has_page, HoldsOthers}
-use Rattle.tmem_image.proofs.Changed.{page_written, page_kept, HoldsOthers-marked, moments_none, moments_write}
+use Rattle.tmem_image.proofs.Changed.{page_written, page_kept, HoldsOthers-changed, moments_none, moments_write}
 use Rattle.tmem_image.proofs.Pages.{front_none, front_all, pages_front, length-page_bytes}
 use Rattle.tmem_image.proofs.spare.write_pages.Goals as goal
 use Rattle.tmem_image.proofs.spare.write_pages.Goals.{then-has_page+in_ok-write, else-has_page}
@@ -69,7 +69,7 @@ loop-page-preserved g c =
                 (SameOutside-wider offset (length bytes) at (512 * (page + 1)) now new (omega arith) (omega (arith, long)) (w.write.ensures.elsewhere.seen k));
             kept =
                 moments_write (HoldsOthers at vars c.args.changed values) _ _ (g.met.D.Disk.is_device c.loop-page.disk) so_far.kept so_far.elsewhere.time.later offset (length bytes) _ w.write.ensures.uses.model
-                (λ a b. HoldsOthers-marked at vars c.args.changed page (length bytes) values a b (sym c.has_page.ensures ∙ w.if-has_page.true) long) w.write.ensures.elsewhere;
+                (λ a b. HoldsOthers-changed at vars c.args.changed page (length bytes) values a b (sym c.has_page.ensures ∙ w.if-has_page.true) long) w.write.ensures.elsewhere;
             elsewhere =
                 WritesWithin-trans at (512 * pages_of vars) _ _ _ w.write.ensures.uses.model so_far.elsewhere
                 (WritesWithin-wider offset (length bytes) at (512 * pages_of vars) (omega arith) (within at page vars (length bytes) below long) _ _ w.write.ensures.elsewhere);
@@ -96,7 +96,7 @@ returns-in_err-write-clause-kept g c =
     let long : length bytes ≡ 512 = ap length c.page_of-bytes.ensures.bytes ∙ length-page_bytes values c.loop-page.page in
     let so_far = c.loop-page.invariant in
     moments_write (HoldsOthers at vars c.args.changed values) _ _ (g.met.D.Disk.is_device c.loop-page.disk) so_far.kept so_far.elsewhere.time.later (at + 512 * c.loop-page.page) (length bytes) _ c.write.ensures.uses.model
-    (λ a b. HoldsOthers-marked at vars c.args.changed c.loop-page.page (length bytes) values a b (sym c.has_page.ensures ∙ c.if-has_page.true) long) c.write.ensures.elsewhere
+    (λ a b. HoldsOthers-changed at vars c.args.changed c.loop-page.page (length bytes) values a b (sym c.has_page.ensures ∙ c.if-has_page.true) long) c.write.ensures.elsewhere
 
 pub returns-clause-stand : goal.returns-clause-stand
 returns-clause-stand g c = λ k.

@@ -27,6 +27,6 @@ returns-in_err-put_on-clause-not_blank g c = λ is.
       found = c.in_ok-disk.disk;
       opened = c.in_ok-disk.ensures.opened;
       handed = c.put_on.new.disk;
-      looks = c.in_err-put_on.ensures.early (subst IsEarly (sym full) tt);
+      reads_only = c.in_err-put_on.ensures.early (subst IsEarly (sym full) tt);
       other = c.put_on.ensures.not_blank told;
     }

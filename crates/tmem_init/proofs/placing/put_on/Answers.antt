@@ -9,8 +9,8 @@ returns-in_err-put_cell-clause-any_moment g c =
     let old = g.D.Disk.view c.args.disk.now in
     let mid = g.D.Disk.view c.is_blank_for.new.disk in
     let device = g.met.D.Disk.is_device c.args.disk.now in
-    let closed = stands_closed content c.requires.some old mid device c.is_blank_for.ensures.model c.is_blank_for.ensures.looks c.requires.synced (λ k. (c.in_ok-is_blank_for.ensures.blank k).0 yes) in
-    while_putting content c.requires.some old mid device c.is_blank_for.ensures.model c.is_blank_for.ensures.looks _ (behind_first content) (g.D.Disk.view c.put_cell.new.disk) c.put_cell.ensures.uses.model closed _ c.put_cell.ensures.puts
+    let closed = stands_closed content c.requires.some old mid device c.is_blank_for.ensures.model c.is_blank_for.ensures.reads_only c.requires.synced (λ k. (c.in_ok-is_blank_for.ensures.blank k).0 yes) in
+    while_putting content c.requires.some old mid device c.is_blank_for.ensures.model c.is_blank_for.ensures.reads_only _ (behind_first content) (g.D.Disk.view c.put_cell.new.disk) c.put_cell.ensures.uses.model closed _ c.put_cell.ensures.puts
 
 pub returns-clause-any_moment : goal.returns-clause-any_moment
 returns-clause-any_moment g c =
@@ -19,5 +19,5 @@ returns-clause-any_moment g c =
     let old = g.D.Disk.view c.args.disk.now in
     let mid = g.D.Disk.view c.is_blank_for.new.disk in
     let device = g.met.D.Disk.is_device c.args.disk.now in
-    let closed = stands_closed content c.requires.some old mid device c.is_blank_for.ensures.model c.is_blank_for.ensures.looks c.requires.synced (λ k. (c.in_ok-is_blank_for.ensures.blank k).0 yes) in
-    while_putting content c.requires.some old mid device c.is_blank_for.ensures.model c.is_blank_for.ensures.looks _ (behind_first content) (g.D.Disk.view c.put_cell.new.disk) c.put_cell.ensures.uses.model closed _ c.put_cell.ensures.puts
+    let closed = stands_closed content c.requires.some old mid device c.is_blank_for.ensures.model c.is_blank_for.ensures.reads_only c.requires.synced (λ k. (c.in_ok-is_blank_for.ensures.blank k).0 yes) in
+    while_putting content c.requires.some old mid device c.is_blank_for.ensures.model c.is_blank_for.ensures.reads_only _ (behind_first content) (g.D.Disk.view c.put_cell.new.disk) c.put_cell.ensures.uses.model closed _ c.put_cell.ensures.puts

@@ -101,9 +101,9 @@ returns g c =
       uses = uses_after c.sync.result first then.uses;
       zeros = on_ok (λ synced k.
           let mid = then.uses.model k in
-          then.looks.seen k ∙ all_zeros c.args.«end» c.loop-piece.piece _ _ _ _ pieces (so_far.zeros (it.uses.model mid)) (it.written mid) (last_blank c.args.«end»))
+          then.reads_only.seen k ∙ all_zeros c.args.«end» c.loop-piece.piece _ _ _ _ pieces (so_far.zeros (it.uses.model mid)) (it.written mid) (last_blank c.args.«end»))
           c.sync.result then.synced;
-      elsewhere = WritesWithin-trans 0 c.args.«end» _ _ _ then.uses.model written (by_look 0 c.args.«end» _ _ (g.met.D.Disk.is_device c.write-2.new.disk) then.uses.model then.looks);
+      elsewhere = WritesWithin-trans 0 c.args.«end» _ _ _ then.uses.model written (by_look 0 c.args.«end» _ _ (g.met.D.Disk.is_device c.write-2.new.disk) then.uses.model then.reads_only);
       synced = then.synced;
       err = then.err;
     }

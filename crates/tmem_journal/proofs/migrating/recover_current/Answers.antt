@@ -47,7 +47,7 @@ returns-in_err-found g c =
       mends = λ _. it.mends;
       spent_mends = λ _. it.mends;
       migrates = λ k p s stands. SameBesideCopy-mends layout.vars layout.slots (other_copy p.copy) old.seen new.seen (it.mends.seen k);
-      refused_looks = λ not_device not_spent. it.refused_looks not_device;
+      refused_reads_only = λ not_device not_spent. it.refused_reads_only not_device;
       synced = tt;
       sure = tt;
       closed = tt;
@@ -86,7 +86,7 @@ returns g c =
           let mid = then.uses.model k in
           let copy = one_copy vars slots few p q found.state s old.seen (it.found mid) stands in
           subst (λ n. SameBesideCopy vars slots (other_copy n) old.seen new.seen) copy (SameBesideCopy-after vars slots (other_copy found.copy) _ _ _ (it.mends.seen mid) (then.beside k));
-      refused_looks = if_err _ _ (λ f why not_device not_spent. absurd (⊎_elim not_device (λ is. not_spent is.0) why)) c.migrate.result then.refused;
+      refused_reads_only = if_err _ _ (λ f why not_device not_spent. absurd (⊎_elim not_device (λ is. not_spent is.0) why)) c.migrate.result then.refused;
       synced = then.synced;
       sure = then.sure;
       closed = then.closed;

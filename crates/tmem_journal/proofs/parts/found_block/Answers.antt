@@ -14,7 +14,7 @@ returns-in_err-read g c =
     let returned = err_from_is_err_and c.from_residual.result c.from_residual.ensures.1 in
     rw (returned.1, returned.2, it.err) (record {
       uses = record { capacity = it.uses.capacity; model = it.uses.model; failures = it.uses.failures ∙ ap (λ (f : Fault). failures_after f (g.D.Disk.view c.args.disk.now).failures) it.err };
-      looks = it.looks;
+      reads_only = it.reads_only;
       found = λ _. tt;
       refused = tt;
     })
@@ -24,7 +24,7 @@ returns-then-not-reads_open g c =
     let it = c.in_ok-read.ensures in
     record {
       uses = record { capacity = it.uses.capacity; model = it.uses.model; failures = it.uses.failures };
-      looks = it.looks;
+      reads_only = it.reads_only;
       found = λ _. tt;
       refused = search rules;
     }
@@ -38,7 +38,7 @@ returns g c =
     let it = c.in_ok-read.ensures in
     record {
       uses = record { capacity = it.uses.capacity; model = it.uses.model; failures = block_failures vars slots _ _ _ c.read_block.result c.read_block.ensures.refused it.uses.failures };
-      looks = it.looks;
+      reads_only = it.reads_only;
       found = λ k.
           let read = it.bytes k in
           if_ok (λ version. take 511 (drop 1 into) ≡ block_body version vars slots) _ (λ version same. whole seen _ (gate_open seen into 0 512 read 0 0 refl (omega arith) (c.reads_open.ensures.0 c.if-not-reads_open.false)) (part_read seen into 0 512 read 1 511 (omega arith)) version vars slots same)

@@ -3,7 +3,7 @@ use Rattle.std.proofs.lemmas.Bool.{false≢true}
 use Rattle.std.proofs.lemmas.Result.{err_from_is_err_and}
 use Rattle.tmem_fault.specs.declared.fault.Fault.TheVariants.{Damaged}
 use Rattle.tmem_gate.specs.Calls.{failures_after}
-use Rattle.tmem_gate.proofs.Laws.{LooksOnly-trans}
+use Rattle.tmem_gate.proofs.Laws.{OnlyReads-trans}
 use Rattle.tmem_record.specs.Layout.{end_at}
 use Rattle.tmem_state.specs.Versions.{version_number}
 use Rattle.tmem_journal.proofs.Recovering.{no_choice, image_missing, block_later, log_missing, all_found, looking_four, looking, synced_since}
@@ -18,7 +18,7 @@ returns-in_err-sync g c =
       uses = record { capacity = failed.uses.capacity; model = failed.uses.model; failures = failed.uses.failures ∙ ap (λ f. failures_after f (g.D.Disk.view c.args.disk.now).failures) failed.err };
       found = λ _. tt;
       refused = tt;
-      looks = c.sync.ensures.looks;
+      reads_only = c.sync.ensures.reads_only;
       synced = tt;
       one = tt;
       number = tt;
@@ -37,8 +37,8 @@ returns-in_err-block g c =
         failures = c.in_err-block.ensures.uses.failures ∙ ap (failures_after c.in_err-block.field-0.0) c.in_ok-sync.ensures.uses.failures;
       };
       found = λ _. tt;
-      refused = why_block c.args.layout.vars c.args.layout.slots c.args.layout.fits _ _ _ (λ k. s1.looks.seen (s2.uses.model k)) c.in_err-block.field-0.0 c.in_err-block.ensures.refused;
-      looks = LooksOnly-trans _ _ _ s2.uses.model s1.looks s2.looks;
+      refused = why_block c.args.layout.vars c.args.layout.slots c.args.layout.fits _ _ _ (λ k. s1.reads_only.seen (s2.uses.model k)) c.in_err-block.field-0.0 c.in_err-block.ensures.refused;
+      reads_only = OnlyReads-trans _ _ _ s2.uses.model s1.reads_only s2.reads_only;
       synced = tt;
       one = tt;
       number = tt;
@@ -63,12 +63,12 @@ returns-in_err-copy g c =
       refused = why_part vars slots c.args.layout.fits _ c.in_ok-block.block _ _ c.in_err-copy.field-0.0
           (λ k.
           let m2 = s3.uses.model k in
-          block_then c.in_ok-block.block vars slots _ _ (s1.looks.seen (s2.uses.model m2)) (c.in_ok-block.ensures.found m2))
+          block_then c.in_ok-block.block vars slots _ _ (s1.reads_only.seen (s2.uses.model m2)) (c.in_ok-block.ensures.found m2))
           (λ refused k.
           let m2 = s3.uses.model k in
-          no_choice vars slots _ _ (s2.looks.seen m2 ∙ s1.looks.seen (s2.uses.model m2)) (refused k))
+          no_choice vars slots _ _ (s2.reads_only.seen m2 ∙ s1.reads_only.seen (s2.uses.model m2)) (refused k))
           c.in_err-copy.ensures.refused;
-      looks = LooksOnly-trans _ _ _ s3.uses.model (LooksOnly-trans _ _ _ s2.uses.model s1.looks s2.looks) s3.looks;
+      reads_only = OnlyReads-trans _ _ _ s3.uses.model (OnlyReads-trans _ _ _ s2.uses.model s1.reads_only s2.reads_only) s3.reads_only;
       synced = tt;
       one = tt;
       number = tt;
@@ -101,13 +101,13 @@ returns-in_err-version g c =
       refused = why_part vars slots c.args.layout.fits _ c.in_ok-block.block _ _ c.in_err-version.field-0.0
           (λ k.
           let m2 = s3.uses.model (s4.uses.model k) in
-          block_then c.in_ok-block.block vars slots _ _ (s1.looks.seen (s2.uses.model m2)) (c.in_ok-block.ensures.found m2))
+          block_then c.in_ok-block.block vars slots _ _ (s1.reads_only.seen (s2.uses.model m2)) (c.in_ok-block.ensures.found m2))
           (λ refused k.
           let m3 = s4.uses.model k in
           let m2 = s3.uses.model m3 in
-          image_missing vars slots c.in_ok-copy.copy _ _ _ _ (s1.looks.seen (s2.uses.model m2)) (s2.looks.seen m2) (s3.looks.seen m3) (c.in_ok-copy.ensures.found m3) (refused k))
+          image_missing vars slots c.in_ok-copy.copy _ _ _ _ (s1.reads_only.seen (s2.uses.model m2)) (s2.reads_only.seen m2) (s3.reads_only.seen m3) (c.in_ok-copy.ensures.found m3) (refused k))
           c.in_err-version.ensures.refused;
-      looks = looking_four _ _ _ _ _ s2.uses.model s3.uses.model s4.uses.model s1.looks s2.looks s3.looks s4.looks;
+      reads_only = looking_four _ _ _ _ _ s2.uses.model s3.uses.model s4.uses.model s1.reads_only s2.reads_only s3.reads_only s4.reads_only;
       synced = tt;
       one = tt;
       number = tt;
@@ -134,14 +134,14 @@ returns-then-not-may_follow g c =
       refused = why_part vars slots c.args.layout.fits _ block _ (version_number block ≤ version_number image.version → ⊥) Damaged
           (λ k.
           let m2 = s3.uses.model (s4.uses.model k) in
-          block_then block vars slots _ _ (s1.looks.seen (s2.uses.model m2)) (c.in_ok-block.ensures.found m2))
+          block_then block vars slots _ _ (s1.reads_only.seen (s2.uses.model m2)) (c.in_ok-block.ensures.found m2))
           (λ later k.
           let m3 = s4.uses.model k in
           let m2 = s3.uses.model m3 in
-          block_later vars slots c.in_ok-copy.copy _ _ _ _ (s1.looks.seen (s2.uses.model m2)) (s2.looks.seen m2) (s3.looks.seen m3) image.version image.generation image.state
+          block_later vars slots c.in_ok-copy.copy _ _ _ _ (s1.reads_only.seen (s2.uses.model m2)) (s2.reads_only.seen m2) (s3.reads_only.seen m3) image.version image.generation image.state
           block (c.in_ok-block.ensures.found m2) later (c.in_ok-copy.ensures.found m3) (c.in_ok-version.ensures.found k))
           (λ le. false≢true (sym c.if-not-may_follow.true ∙ c.may_follow.ensures.1 le));
-      looks = looking_four _ _ _ _ _ s2.uses.model s3.uses.model s4.uses.model s1.looks s2.looks s3.looks s4.looks;
+      reads_only = looking_four _ _ _ _ _ s2.uses.model s3.uses.model s4.uses.model s1.reads_only s2.reads_only s3.reads_only s4.reads_only;
       synced = tt;
       one = tt;
       number = tt;
@@ -176,15 +176,15 @@ returns-in_err-log g c =
       refused = why_part vars slots c.args.layout.fits _ c.in_ok-block.block _ _ c.in_err-log.field-0.0
           (λ k.
           let m2 = s3.uses.model (s4.uses.model (s5.uses.model k)) in
-          block_then c.in_ok-block.block vars slots _ _ (s1.looks.seen (s2.uses.model m2)) (c.in_ok-block.ensures.found m2))
+          block_then c.in_ok-block.block vars slots _ _ (s1.reads_only.seen (s2.uses.model m2)) (c.in_ok-block.ensures.found m2))
           (λ refused k.
           let m4 = s5.uses.model k in
           let m3 = s4.uses.model m4 in
           let m2 = s3.uses.model m3 in
-          log_missing vars slots c.in_ok-copy.copy _ _ _ _ (s1.looks.seen (s2.uses.model m2)) (s2.looks.seen m2) (s3.looks.seen m3) image.version image.generation image.state _ (s4.looks.seen m4)
+          log_missing vars slots c.in_ok-copy.copy _ _ _ _ (s1.reads_only.seen (s2.uses.model m2)) (s2.reads_only.seen m2) (s3.reads_only.seen m3) image.version image.generation image.state _ (s4.reads_only.seen m4)
           (c.in_ok-copy.ensures.found m3) (c.in_ok-version.ensures.found m4) (refused k))
           c.in_err-log.ensures.refused;
-      looks = looking _ _ _ _ _ _ s2.uses.model s3.uses.model s4.uses.model s5.uses.model s1.looks s2.looks s3.looks s4.looks s5.looks;
+      reads_only = looking _ _ _ _ _ _ s2.uses.model s3.uses.model s4.uses.model s5.uses.model s1.reads_only s2.reads_only s3.reads_only s4.reads_only s5.reads_only;
       synced = tt;
       one = tt;
       number = tt;
@@ -214,18 +214,18 @@ returns-clause-found g c = λ k.
     let m3 = c.load.ensures.uses.model m4 in
     let m2 = c.choose.ensures.uses.model m3 in
     let m1 = c.found_block.ensures.uses.model m2 in
-    ∣ all_found vars slots c.in_ok-copy.copy _ _ _ _ (c.sync.ensures.looks.seen m1) (c.found_block.ensures.looks.seen m2) (c.choose.ensures.looks.seen m3) image.version image.generation image.state _ (c.load.ensures.looks.seen m4)
+    ∣ all_found vars slots c.in_ok-copy.copy _ _ _ _ (c.sync.ensures.reads_only.seen m1) (c.found_block.ensures.reads_only.seen m2) (c.choose.ensures.reads_only.seen m3) image.version image.generation image.state _ (c.load.ensures.reads_only.seen m4)
     c.in_ok-block.block _ c.in_ok-log.log (c.may_follow.ensures.0 c.if-not-may_follow.false) c.in_ok-copy.ensures.one log.generation (c.in_ok-block.ensures.found m2) (c.in_ok-copy.ensures.found m3) (c.in_ok-version.ensures.found m4) (log.found k) ∣₁
 
 pub returns-clause-refused : goal.returns-clause-refused
 returns-clause-refused g c = tt
 
-pub returns-clause-looks : goal.returns-clause-looks
-returns-clause-looks g c =
+pub returns-clause-reads_only : goal.returns-clause-reads_only
+returns-clause-reads_only g c =
     looking _ _ _ _ _ _ c.found_block.ensures.uses.model c.choose.ensures.uses.model c.load.ensures.uses.model c.scan.ensures.uses.model
-    c.sync.ensures.looks c.found_block.ensures.looks c.choose.ensures.looks c.load.ensures.looks c.scan.ensures.looks
+    c.sync.ensures.reads_only c.found_block.ensures.reads_only c.choose.ensures.reads_only c.load.ensures.reads_only c.scan.ensures.reads_only
 
--- each call behind the sync only looks
+-- each call behind the sync only reads
 pub returns-clause-synced : goal.returns-clause-synced
 returns-clause-synced g c =
     let now = g.D.Disk.view c.scan.new.disk in
@@ -233,7 +233,7 @@ returns-clause-synced g c =
     let s3 = c.choose.ensures in
     let s4 = c.load.ensures in
     let s5 = c.scan.ensures in
-    synced_since _ _ _ _ now s2.uses.model s3.uses.model s4.uses.model s5.uses.model s2.looks s3.looks s4.looks s5.looks (search rules)
+    synced_since _ _ _ _ now s2.uses.model s3.uses.model s4.uses.model s5.uses.model s2.reads_only s3.reads_only s4.reads_only s5.reads_only (search rules)
 
 pub returns-clause-one : goal.returns-clause-one
 returns-clause-one g c = c.in_ok-copy.ensures.one

@@ -13,8 +13,8 @@ returns-in_err-found g c =
       uses = record { capacity = it.uses.capacity; model = it.uses.model; failures = it.uses.failures };
       found = λ _. tt;
       refused = it.refused;
-      mends = looking_mends c.args.layout.vars c.args.layout.slots _ _ it.looks (g.met.D.Disk.is_device c.args.disk.now) it.uses.model;
-      refused_looks = λ _. it.looks;
+      mends = looking_mends c.args.layout.vars c.args.layout.slots _ _ it.reads_only (g.met.D.Disk.is_device c.args.disk.now) it.uses.model;
+      refused_reads_only = λ _. it.reads_only;
       synced = tt;
       closed = tt;
       one = tt;
@@ -36,8 +36,8 @@ returns-in-Ok g c =
       };
       found = λ k. it.found (closing.call.model k);
       refused = tt;
-      mends = closing_mends layout.vars layout.slots (omega (arith, layout.fits.vars_fit)) (position_at found.version found.copy found.log) it.sized.1 found.state _ _ _ it.looks it.synced it.uses.model closing.call.model it.found (g.met.D.Disk.is_device c.args.disk.now) closing.closes closing.idle;
-      refused_looks = tt;
+      mends = closing_mends layout.vars layout.slots (omega (arith, layout.fits.vars_fit)) (position_at found.version found.copy found.log) it.sized.1 found.state _ _ _ it.reads_only it.synced it.uses.model closing.call.model it.found (g.met.D.Disk.is_device c.args.disk.now) closing.closes closing.idle;
+      refused_reads_only = tt;
       synced = closing.durable it.synced;
       closed = closing.closed it.synced;
       one = it.one;
@@ -59,8 +59,8 @@ returns-in-Err g c =
       };
       found = λ _. tt;
       refused = tt;
-      mends = closing_mends layout.vars layout.slots (omega (arith, layout.fits.vars_fit)) (position_at found.version found.copy found.log) it.sized.1 found.state _ _ _ it.looks it.synced it.uses.model closing.call.model it.found (g.met.D.Disk.is_device c.args.disk.now) closing.closes closing.idle;
-      refused_looks = λ other. absurd (other refl);
+      mends = closing_mends layout.vars layout.slots (omega (arith, layout.fits.vars_fit)) (position_at found.version found.copy found.log) it.sized.1 found.state _ _ _ it.reads_only it.synced it.uses.model closing.call.model it.found (g.met.D.Disk.is_device c.args.disk.now) closing.closes closing.idle;
+      refused_reads_only = λ other. absurd (other refl);
       synced = tt;
       closed = tt;
       one = tt;

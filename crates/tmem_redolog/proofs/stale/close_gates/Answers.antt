@@ -2,9 +2,9 @@ use Rattle.std.proofs.Common.{ℕ, Err, ap, ◌∙◌, ◌≡◌, ◌⊎◌, inl
 use Rattle.std.proofs.lemmas.Result.{err_from_is_err_and}
 use Rattle.tmem_disk.specs.declared.disk.DeviceFault.{DeviceFault}
 use Rattle.tmem_gate.specs.Gate.{IsClosed}
-use Rattle.tmem_gate.proofs.Laws.{closed_along, LooksOnly-refl, LooksOnly-trans}
+use Rattle.tmem_gate.proofs.Laws.{closed_along, OnlyReads-refl, OnlyReads-trans}
 use Rattle.tmem_disk.proofs.Laws.{fails_last}
-use Rattle.tmem_redolog.proofs.Closing.{gate_fits, looks_given, closed_up_to, Sets-refl, Sets-next, sets_closes, shut_in, idle_next, idle_so_far, closed_next, no_gate_open, none_open_yet}
+use Rattle.tmem_redolog.proofs.Closing.{gate_fits, reads_only_given, closed_up_to, Sets-refl, Sets-next, sets_closes, shut_in, idle_next, idle_so_far, closed_next, no_gate_open, none_open_yet}
 use Rattle.tmem_redolog.proofs.stale.close_gates.Goals as goal
 use Rattle.tmem_redolog.proofs.stale.close_gates.Goals.{then-any, else-any}
 
@@ -15,7 +15,7 @@ loop-k-init g c = record {
   last = refl;
   gates = Sets-refl c.args.layout.vars c.args.layout.slots c.args.from _ (g.met.D.Disk.is_device c.args.disk.now);
   closed = λ k j above below. absurd (omega (arith, above, below));
-  looks = λ none. LooksOnly-refl _;
+  reads_only = λ none. OnlyReads-refl _;
   idle = λ k shut. refl;
 }
 
@@ -64,9 +64,9 @@ loop-k-preserved g c =
       last = c.in_ok-closed.ensures.call.last ∙ before.last;
       gates = Sets-next vars slots c.args.from c.loop-k.k low high old mid new device device_mid model before.gates within idle;
       closed = λ k. closed_next vars slots c.args.from c.loop-k.k low high old mid new device device_mid model before.gates within idle before.closed k (subst (λ n. IsClosed n new.seen) c.slot.ensures (c.in_ok-closed.ensures.closed k));
-      looks = λ none.
+      reads_only = λ none.
           let both = no_gate_open c.loop-k.any c.in_ok-closed.closed c.if-any.any either none in
-          LooksOnly-trans old mid new model (before.looks both.0) (c.in_ok-closed.ensures.looks both.1);
+          OnlyReads-trans old mid new model (before.reads_only both.0) (c.in_ok-closed.ensures.reads_only both.1);
       idle = λ k shut.
           let here = shut_in vars slots c.args.from c.loop-k.k low high old mid new device device_mid model before.gates within idle (model k) (shut c.loop-k.k low (omega arith)) in
           none_open_yet c.loop-k.any c.in_ok-closed.closed c.if-any.any either (before.idle (model k) (λ j above below. shut j above (omega arith)))
@@ -78,7 +78,7 @@ returns-clause-closes g c = λ generation.
     sets_closes c.args.layout.vars c.args.layout.slots c.args.from c.loop-k.k generation _ _ (g.met.D.Disk.is_device c.args.disk.now) (g.met.D.Disk.is_device c.loop-k.disk) c.loop-k.invariant.gates
 
 pub returns-clause-idle : goal.returns-clause-idle
-returns-clause-idle g c = λ shut. looks_given _ _ (idle_so_far c.args.layout.vars c.args.layout.slots c.args.from c.loop-k.k _ _ c.loop-k.any (omega arith) c.loop-k.invariant shut)
+returns-clause-idle g c = λ shut. reads_only_given _ _ (idle_so_far c.args.layout.vars c.args.layout.slots c.args.from c.loop-k.k _ _ c.loop-k.any (omega arith) c.loop-k.invariant shut)
 
 pub returns-clause-closed : goal.returns-clause-closed
 returns-clause-closed g c = λ keeps.
@@ -94,8 +94,8 @@ returns-in_err-closed-clause-call g c =
     let before = c.loop-k.invariant in
     fails_last _ _ _ before.capacity before.failures before.gates.model c.in_err-closed.field-0.0 c.in_err-closed.ensures.call c.from_residual.result (returned.1 ∙ ap (λ (f : DeviceFault). Err f) returned.2) c.in_err-closed.ensures.call.fault
 
-pub returns-in_err-closed-clause-looks : goal.returns-in_err-closed-clause-looks
-returns-in_err-closed-clause-looks g c = rw (err_from_is_err_and c.from_residual.result c.from_residual.ensures.1).1 tt
+pub returns-in_err-closed-clause-reads_only : goal.returns-in_err-closed-clause-reads_only
+returns-in_err-closed-clause-reads_only g c = rw (err_from_is_err_and c.from_residual.result c.from_residual.ensures.1).1 tt
 
 pub returns-in_err-closed-clause-closed : goal.returns-in_err-closed-clause-closed
 returns-in_err-closed-clause-closed g c = rw (err_from_is_err_and c.from_residual.result c.from_residual.ensures.1).1 (λ _. tt)

@@ -3,7 +3,7 @@ use Rattle.std.proofs.lemmas.Bool.{false≢true}
 use Rattle.std.proofs.lemmas.Result.{err_from_is_err_and}
 use Rattle.tmem_disk.specs.declared.disk.DeviceFault.{DeviceFault}
 use Rattle.tmem_gate.specs.Gate.{IsClosed}
-use Rattle.tmem_gate.proofs.Laws.{looks, LooksOnly-trans}
+use Rattle.tmem_gate.proofs.Laws.{reads_only, OnlyReads-trans}
 use Rattle.tmem_record.specs.Layout.{slot_at}
 use Rattle.tmem_disk.proofs.Laws.{fails_last, fails_not}
 use Rattle.tmem_redolog.proofs.Closing.{Closes-then_look, closed_still}
@@ -15,12 +15,12 @@ returns-in_err-close_gates-clause-closes g c = c.close_gates.ensures.closes c.ar
 pub returns-in_err-sync-clause-closes : goal.returns-in_err-sync-clause-closes
 returns-in_err-sync-clause-closes g c =
     let sync = c.sync.ensures in
-    Closes-then_look c.args.layout.vars c.args.layout.slots c.args.log.now.generation c.args.log.now.used _ _ _ (g.met.D.Disk.is_device c.close_gates.new.disk) sync.call.model (c.close_gates.ensures.closes c.args.log.now.generation) (looks _ _ sync.seen sync.crash sync.time)
+    Closes-then_look c.args.layout.vars c.args.layout.slots c.args.log.now.generation c.args.log.now.used _ _ _ (g.met.D.Disk.is_device c.close_gates.new.disk) sync.call.model (c.close_gates.ensures.closes c.args.log.now.generation) (reads_only _ _ sync.seen sync.crash sync.time)
 
 pub returns-in_ok-sync-clause-closes : goal.returns-in_ok-sync-clause-closes
 returns-in_ok-sync-clause-closes g c =
     let sync = c.sync.ensures in
-    Closes-then_look c.args.layout.vars c.args.layout.slots c.args.log.now.generation c.args.log.now.used _ _ _ (g.met.D.Disk.is_device c.close_gates.new.disk) sync.call.model (c.close_gates.ensures.closes c.args.log.now.generation) (looks _ _ sync.seen sync.crash sync.time)
+    Closes-then_look c.args.layout.vars c.args.layout.slots c.args.log.now.generation c.args.log.now.used _ _ _ (g.met.D.Disk.is_device c.close_gates.new.disk) sync.call.model (c.close_gates.ensures.closes c.args.log.now.generation) (reads_only _ _ sync.seen sync.crash sync.time)
 
 pub returns-in_err-close_gates-clause-closed : goal.returns-in_err-close_gates-clause-closed
 returns-in_err-close_gates-clause-closed g c = rw (err_from_is_err_and c.from_residual.result c.from_residual.ensures.1).1 (λ _. tt)
@@ -74,12 +74,12 @@ returns-else-branch-clause-closes g c = c.close_gates.ensures.closes c.args.log.
 pub returns-in_ok-sync-clause-idle : goal.returns-in_ok-sync-clause-idle
 returns-in_ok-sync-clause-idle g c = λ shut.
     let sync = c.sync.ensures in
-    LooksOnly-trans _ _ _ sync.call.model (c.close_gates.ensures.idle shut) (looks _ _ sync.seen sync.crash sync.time)
+    OnlyReads-trans _ _ _ sync.call.model (c.close_gates.ensures.idle shut) (reads_only _ _ sync.seen sync.crash sync.time)
 
 pub returns-in_err-sync-clause-idle : goal.returns-in_err-sync-clause-idle
 returns-in_err-sync-clause-idle g c = λ shut.
     let sync = c.sync.ensures in
-    LooksOnly-trans _ _ _ sync.call.model (c.close_gates.ensures.idle shut) (looks _ _ sync.seen sync.crash sync.time)
+    OnlyReads-trans _ _ _ sync.call.model (c.close_gates.ensures.idle shut) (reads_only _ _ sync.seen sync.crash sync.time)
 
 pub returns-in_err-sync-clause-idle_fault : goal.returns-in_err-sync-clause-idle_fault
 returns-in_err-sync-clause-idle_fault g c = λ keeps shut.

@@ -29,8 +29,8 @@ returns-in-Show-clause-played g c =
     subst (λ (e : ScriptEntry). OnOk c.print_state.result (PlaysEntries c.args.world.now (g.W.Write.contents c.args.out.now) (e ∷ []) c.args.world.now (g.W.Write.contents c.print_state.new.out))) (sym c.in-Show.is)
     (on_ok_weaker c.print_state.result
     (λ wrote program means m at premise.
-    let text = line (shown c.args.vars m.session (present program m)) in
-    (m, text, Prints-one (setting_of c.args.world.now program) Show text m m (ap (λ (v : ℕ). line (shown v m.session (present program m))) (sym c.requires), refl), at, wrote program m at))
+    let text = line (shown c.args.vars m.status (present program m)) in
+    (m, text, Prints-one (setting_of c.args.world.now program) Show text m m (ap (λ (v : ℕ). line (shown v m.status (present program m))) (sym c.requires), refl), at, wrote program m at))
     c.print_state.ensures.shown)
 
 pub returns-in-Event-clause-chain : goal.returns-in-Event-clause-chain
@@ -51,9 +51,9 @@ returns-in-Show-clause-chain g c =
     let after = g.W.Write.contents c.print_state.new.out in
     subst (λ (e : ScriptEntry). PlaysEntriesOn w (e ∷ []) w (λ text. OnOk c.print_state.result (Appends before after text))) (sym c.in-Show.is)
     (λ program means h m has keeps. (
-      line (shown w.layout.vars m.session (present program m)),
+      line (shown w.layout.vars m.status (present program m)),
       go_on-show program w (g.met.D.Disk.is_device (world_disk w)) h m has,
-      on_ok_weaker c.print_state.result (λ wrote. subst (λ (v : ℕ). Appends before after (line (shown v m.session (present program m)))) (sym c.requires) (wrote program m has.point)) c.print_state.ensures.shown,
+      on_ok_weaker c.print_state.result (λ wrote. subst (λ (v : ℕ). Appends before after (line (shown v m.status (present program m)))) (sym c.requires) (wrote program m has.point)) c.print_state.ensures.shown,
     ))
 
 pub returns-in-Show-clause-elsewhere : goal.returns-in-Show-clause-elsewhere

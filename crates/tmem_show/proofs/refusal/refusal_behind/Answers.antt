@@ -5,8 +5,8 @@ use Rattle.tmem_fault.specs.declared.fault.Fault.TheVariants.{Memory, Device}
 use Rattle.tmem_record.specs.Layout.{end_at}
 use Rattle.tmem_record.specs.declared.layout.Layout.{Layout}
 use Rattle.tmem_show.specs.Refusals.{IsOpening}
-use Rattle.tmem_show.specs.declared.look.OpeningResult.{OpeningResult}
-use Rattle.tmem_show.specs.declared.look.ShownStore.{ShownStore}
+use Rattle.tmem_show.specs.declared.shown.OpeningResult.{OpeningResult}
+use Rattle.tmem_show.specs.declared.shown.ShownStore.{ShownStore}
 use Rattle.tmem_show.proofs.Placed.{all_placed_behind}
 use Rattle.tmem_show.proofs.refusal.refusal_behind.Goals as goal
 
@@ -40,11 +40,11 @@ returns-in_ok-opening-in-Ok-clause-placed c =
 pub returns-in_ok-opening-in-Ok-clause-told : goal.returns-in_ok-opening-in-Ok-clause-told
 returns-in_ok-opening-in-Ok-clause-told c =
     let layout = c.args.block.layout in
-    let look = c.in-Ok.look in
+    let shown = c.in-Ok.shown in
     let found = c.in_ok-opening-in-Ok.opening in
-    let same : look.layout ≡ layout = subst (λ (r : Result ShownStore Fault). IfOk r (λ l. l.layout ≡ layout)) c.in-Ok.is c.new.ensures.layout in
-    let read : look.bytes.now ≡ c.deref.result.now = subst (λ (r : Result ShownStore Fault). IfOk r (λ l. l.bytes.now ≡ c.deref.result.now)) c.in-Ok.is c.new.ensures.bytes in
-    let with_layout = subst (λ (l : Layout). IsOpening l.vars l.slots look.bytes.now found) same c.in_ok-opening-in-Ok.ensures.found in
+    let same : shown.layout ≡ layout = subst (λ (r : Result ShownStore Fault). IfOk r (λ l. l.layout ≡ layout)) c.in-Ok.is c.new.ensures.layout in
+    let read : shown.bytes.now ≡ c.deref.result.now = subst (λ (r : Result ShownStore Fault). IfOk r (λ l. l.bytes.now ≡ c.deref.result.now)) c.in-Ok.is c.new.ensures.bytes in
+    let with_layout = subst (λ (l : Layout). IsOpening l.vars l.slots shown.bytes.now found) same c.in_ok-opening-in-Ok.ensures.found in
     let with_bytes = subst (λ (b : List ℕ). IsOpening layout.vars layout.slots b found) (read ∙ c.deref.ensures.value) with_layout in
     c.refusal_in-in-Ok.ensures.told layout.vars layout.slots c.args.source.now.bytes.items with_bytes
 

@@ -21,5 +21,5 @@ returns-clause-time c =
     let time = c.touch.ensures.time in
     record { later = time.later; nothing_else = time.nothing_else; keeps = time.keeps; before_or_since = time.before_or_since }
 
-pub invariant_of-self-clause-marked : goal.invariant_of-self-clause-marked
-invariant_of-self-clause-marked c = grind (arith, common_steps)
+pub invariant_of-self-clause-long : goal.invariant_of-self-clause-long
+invariant_of-self-clause-long c = grind (arith, common_steps)

@@ -17,16 +17,16 @@ returns-then-only_fails_at_write-clause-fails c =
     let is = sym c.only_fails_at_write.ensures.fails ∙ c.if-only_fails_at_write.true in
     (λ failed. inr (only_fails-IsArmed c.args.self.now.power c.args.at is), search rules)
 
-pub returns-then-only_fails_at_write-clause-marked : goal.returns-then-only_fails_at_write-clause-marked
-returns-then-only_fails_at_write-clause-marked c =
+pub returns-then-only_fails_at_write-clause-bytes : goal.returns-then-only_fails_at_write-clause-bytes
+returns-then-only_fails_at_write-clause-bytes c =
     let is = sym c.only_fails_at_write.ensures.fails ∙ c.if-only_fails_at_write.true in
     c.touch.ensures.bytes ∙ sym (bytes_after_write-runs c.args.self.now.power c.args.at c.args.bytes.now _ _ (search rules) is)
 
 pub returns-then-is_crashed-2-clause-still : goal.returns-then-is_crashed-2-clause-still
 returns-then-is_crashed-2-clause-still c = still_leaves (sim_view c.args.self.now) (sim_view c.store.new.self) _ _ c.store.ensures.crash
 
-pub returns-then-is_crashed-2-clause-marked : goal.returns-then-is_crashed-2-clause-marked
-returns-then-is_crashed-2-clause-marked c =
+pub returns-then-is_crashed-2-clause-bytes : goal.returns-then-is_crashed-2-clause-bytes
+returns-then-is_crashed-2-clause-bytes c =
     let is = sym c.only_fails_at_write.ensures.fails ∙ c.if-only_fails_at_write.false in
     c.store.ensures.bytes ∙ sym (bytes_after_write-runs c.args.self.now.power c.args.at c.args.bytes.now _ _ (search rules) is)
 
@@ -39,8 +39,8 @@ returns-clause-still c = still_leaves (sim_view c.args.self.now) (sim_view c.sto
 pub returns-clause-fails : goal.returns-clause-fails
 returns-clause-fails c = grind (arith, common_steps)
 
-pub returns-clause-marked : goal.returns-clause-marked
-returns-clause-marked c =
+pub returns-clause-bytes : goal.returns-clause-bytes
+returns-clause-bytes c =
     let is = sym c.only_fails_at_write.ensures.fails ∙ c.if-only_fails_at_write.false in
     c.store.ensures.bytes ∙ sym (bytes_after_write-runs c.args.self.now.power c.args.at c.args.bytes.now _ _ (search rules) is)
 

@@ -2,7 +2,7 @@ use Rattle.std.proofs.Common.{rules, ◌≡◌, ◌==◌, ◌<◌, Some, None, p
 use Rattle.std.proofs.lemmas.Int.{to_z-of_z}
 use Rattle.std.proofs.lemmas.List.{length-take-le}
 use Rattle.tmem_effect.proofs.Placing.{take-set-with_write, take-more-with_write}
-use Rattle.tmem_effect.proofs.WritesLaws.{is_some-look-none, AreWrites-with_write}
+use Rattle.tmem_effect.proofs.WritesLaws.{is_some-value_in-none, AreWrites-with_write}
 use Rattle.tmem_effect.proofs.writes.Writes.put.Goals as goal
 
 pub invariant_of-self : goal.invariant_of-self
@@ -23,7 +23,7 @@ bounds-self-inside-self-inside c =
     let made : length w.items ≡ 64 = search rules in
     let none : position (λ v. c.args.var == v.0) (take w.len w.items) ≡ None = cc in
     let room = rw (← c.self.view_is) at c.requires in
-    omega (arith, room (is_some-look-none (take w.len w.items) c.args.var none), length-take-le w.len w.items (omega arith))
+    omega (arith, room (is_some-value_in-none (take w.len w.items) c.args.var none), length-take-le w.len w.items (omega arith))
 
 pub invariant_of-self-in-None : goal.invariant_of-self-in-None
 invariant_of-self-in-None c =
@@ -31,7 +31,7 @@ invariant_of-self-in-None c =
     let made : length w.items ≡ 64 = search rules in
     let none : position (λ v. c.args.var == v.0) (take w.len w.items) ≡ None = cc in
     let room = rw (← c.self.view_is) at c.requires in
-    let below : w.len < 64 = omega (arith, room (is_some-look-none (take w.len w.items) c.args.var none), length-take-le w.len w.items (omega arith)) in (
+    let below : w.len < 64 = omega (arith, room (is_some-value_in-none (take w.len w.items) c.args.var none), length-take-le w.len w.items (omega arith)) in (
       rw (to_z-of_z w64 c.args.value c.ranges.value, take-more-with_write w.items w.len c.args.var c.args.value (omega arith) none (omega arith))
           (AreWrites-with_write (take w.len w.items) c.args.var c.args.value room c.ranges.value c.self.invariant.0),
       omega arith,
@@ -50,5 +50,5 @@ returns-in-None c =
     let made : length w.items ≡ 64 = search rules in
     let none : position (λ v. c.args.var == v.0) (take w.len w.items) ≡ None = cc in
     let room = rw (← c.self.view_is) at c.requires in
-    let below : w.len < 64 = omega (arith, room (is_some-look-none (take w.len w.items) c.args.var none), length-take-le w.len w.items (omega arith)) in
+    let below : w.len < 64 = omega (arith, room (is_some-value_in-none (take w.len w.items) c.args.var none), length-take-le w.len w.items (omega arith)) in
     rw (to_z-of_z w64 c.args.value c.ranges.value, ← c.self.view_is) (take-more-with_write w.items w.len c.args.var c.args.value (omega arith) none (omega arith))

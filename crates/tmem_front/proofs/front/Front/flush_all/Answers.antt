@@ -1,6 +1,6 @@
 use Rattle.std.proofs.Common.{rules, List, ap, sym, ◌∙◌, subst}
 use Rattle.std.proofs.lemmas.Result.{err_from_is_err_and}
-use Rattle.tmem_spine.specs.declared.view.Entry.{Entry}
+use Rattle.tmem_spine.specs.declared.view.MarkedEffect.{MarkedEffect}
 use Rattle.tmem_spine.specs.History.{count}
 use Rattle.tmem_seats.specs.Flushing.{IsFlusherRefusal}
 use Rattle.tmem_front.proofs.Looks.{sees_where_it_knows, sees_further}
@@ -15,7 +15,7 @@ loop-init g c = record {
 pub loop-preserved : goal.loop-preserved
 loop-preserved g c = record {
   sees = sees_further _ _ _ c.loop.invariant.sees c.sees_all.ensures.sees;
-  known = c.loop.invariant.known ∙ sym (ap (λ (l : List Entry). count g.N.Naming.name.start l) (c.sees_all.ensures.same c.if-sees_all.false));
+  known = c.loop.invariant.known ∙ sym (ap (λ (l : List MarkedEffect). count g.N.Naming.name.start l) (c.sees_all.ensures.same c.if-sees_all.false));
 }
 
 pub returns-then-sees_all : goal.returns-then-sees_all

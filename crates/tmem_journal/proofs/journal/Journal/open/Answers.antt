@@ -3,7 +3,7 @@ use Rattle.std.proofs.lemmas.Bool.{false≢true}
 use Rattle.tmem_fault.specs.declared.fault.Fault.{Fault}
 use Rattle.tmem_fault.specs.declared.fault.Fault.TheVariants.{Geometry}
 use Rattle.tmem_disk.proofs.Laws.{seen-left}
-use Rattle.tmem_gate.proofs.Laws.{LooksOnly-refl}
+use Rattle.tmem_gate.proofs.Laws.{OnlyReads-refl}
 use Rattle.tmem_image.specs.Image.{other_copy}
 use Rattle.tmem_image.specs.Pages.{pages_at}
 use Rattle.tmem_image.proofs.Laws.{HoldsOthers-all}
@@ -34,7 +34,7 @@ returns-in-Err g c =
       mends = λ _. still_mends c.args.vars c.args.slots view device;
       spent_mends = λ _. still_mends c.args.vars c.args.slots view device;
       migrates = λ _ _ _ _ _ _ _. refl;
-      refused_looks = λ _ _. LooksOnly-refl view;
+      refused_reads_only = λ _ _. OnlyReads-refl view;
       either = λ s t fits left k. absurd (unfit fits);
     }
 
@@ -56,7 +56,7 @@ returns-then-size-end g c =
       mends = λ _. still_mends c.args.vars c.args.slots view device;
       spent_mends = λ _. still_mends c.args.vars c.args.slots view device;
       migrates = λ _ _ _ _ _ _ _. refl;
-      refused_looks = λ _ _. LooksOnly-refl view;
+      refused_reads_only = λ _ _. OnlyReads-refl view;
       either = λ s t fits left k. absurd (unfit fits);
     }
 
@@ -78,7 +78,7 @@ returns-in-Err-new g c =
       mends = λ _. still_mends c.args.vars c.args.slots view device;
       spent_mends = λ _. still_mends c.args.vars c.args.slots view device;
       migrates = λ _ _ _ _ _ _ _. refl;
-      refused_looks = λ _ _. LooksOnly-refl view;
+      refused_reads_only = λ _ _. OnlyReads-refl view;
       either = λ s t fits left k. inl refl;
     }
 
@@ -121,7 +121,7 @@ returns-in-Ok-recover_current g c =
       mends = rw (c.in-Ok.ensures.vars, c.in-Ok.ensures.slots) at it.mends;
       spent_mends = tt;
       migrates = rw (c.in-Ok.ensures.vars, c.in-Ok.ensures.slots) at it.migrates;
-      refused_looks = tt;
+      refused_reads_only = tt;
       either = λ s t fits left k.
           let found = it.found k in
           found_either c.args.vars c.args.slots (omega (arith, fits.layout.vars_fit)) found.position _ s t _ (rw (c.in-Ok.ensures.vars, c.in-Ok.ensures.slots) at found.stands) (seen-left _ _ (g.met.D.Disk.is_device c.args.disk) left (it.uses.model k));
@@ -151,6 +151,6 @@ returns-in-Err-recover_current g c =
       mends = rw (c.in-Ok.ensures.vars, c.in-Ok.ensures.slots) at it.mends;
       spent_mends = rw (c.in-Ok.ensures.vars, c.in-Ok.ensures.slots) at it.spent_mends;
       migrates = rw (c.in-Ok.ensures.vars, c.in-Ok.ensures.slots) at it.migrates;
-      refused_looks = it.refused_looks;
+      refused_reads_only = it.refused_reads_only;
       either = λ s t fits left k. wanting c.in-Err-recover_current.fault P (λ f other by. none_refused c.args.vars c.args.slots f s t _ fits.layout other (seen-left _ _ (g.met.D.Disk.is_device c.args.disk) left (it.uses.model k)) (by k)) why;
     }

@@ -19,7 +19,7 @@ returns-in-Err-clause-refused g c =
     let old = g.D.Disk.view c.args.disk in
     let new = g.D.Disk.view c.in-Err.disk in
     let mends = mending c.args.vars c.args.slots old new (g.met.D.Disk.is_device c.in-Err.disk) so.recovers so.mends in
-    journal_refused _ c.args.vars c.args.slots old new c.in-Err.fault mends (g.met.D.Disk.is_device c.in-Err.disk) so.uses so.refused so.refused_looks so.spent_mends
+    journal_refused _ c.args.vars c.args.slots old new c.in-Err.fault mends (g.met.D.Disk.is_device c.in-Err.disk) so.uses so.refused so.refused_reads_only so.spent_mends
     (λ is. subst (λ x. SameDevice old (g.D.Disk.view x)) (sym (so.memory is)) (same old))
 
 pub returns-in-Ok-made-clause-opened : goal.returns-in-Ok-made-clause-opened

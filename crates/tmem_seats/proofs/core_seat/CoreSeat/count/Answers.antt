@@ -1,6 +1,6 @@
 use Rattle.std.proofs.Common.{◌≡◌, List, ap, ◌∙◌}
 use Rattle.tmem_effect.specs.State.{State}
-use Rattle.tmem_spine.specs.declared.view.Entry.{Entry}
+use Rattle.tmem_spine.specs.declared.view.MarkedEffect.{MarkedEffect}
 use Rattle.tmem_spine.specs.History.{count}
 use Rattle.tmem_seats.specs.Seats.{CoreSeatView}
 use Rattle.tmem_seats.proofs.Seated.{count-after}
@@ -12,4 +12,4 @@ returns g c =
     let was = c.self.invariant in
     let side = c.self.inside.side in
     let view : side.committed ≡ c.args.self.now.committed = ap (λ (v : CoreSeatView). v.committed) c.self.view_is in
-    c.count.ensures ∙ ap (λ (s : State). s.count) was.state ∙ count-after g.N.StoreNaming.opening start side.committed was.starts ∙ ap (λ (l : List Entry). count start l) view
+    c.count.ensures ∙ ap (λ (s : State). s.count) was.state ∙ count-after g.N.StoreNaming.opening start side.committed was.starts ∙ ap (λ (l : List MarkedEffect). count start l) view

@@ -2,7 +2,7 @@ use Rattle.std.proofs.Common.{◌≡◌, List, length, ap, ◌∙◌, subst}
 use Rattle.tmem_effect.specs.State.{State}
 use Rattle.tmem_core.specs.Held.{core_state}
 use Rattle.tmem_effect.proofs.Laws.{IsPrefix-self}
-use Rattle.tmem_spine.specs.declared.view.Entry.{Entry}
+use Rattle.tmem_spine.specs.declared.view.MarkedEffect.{MarkedEffect}
 use Rattle.tmem_seats.specs.Histories.{state_after_history, IsSoundState}
 use Rattle.tmem_seats.specs.Seats.{CoreSeatView}
 use Rattle.tmem_seats.proofs.Seated.{values-after}
@@ -18,4 +18,4 @@ peek-requires g c =
 pub returns-clause-sound : goal.returns-clause-sound
 returns-clause-sound g c =
     let log = c.self.inside.side.committed in
-    subst (λ (l : List Entry). IsSoundState g.N.ProgramNaming.program (state_after_history g.N.StoreNaming.opening l)) (ap (λ (v : CoreSeatView). v.committed) c.self.view_is) (c.self.invariant.sound log (IsPrefix-self log))
+    subst (λ (l : List MarkedEffect). IsSoundState g.N.ProgramNaming.program (state_after_history g.N.StoreNaming.opening l)) (ap (λ (v : CoreSeatView). v.committed) c.self.view_is) (c.self.invariant.sound log (IsPrefix-self log))

@@ -7,7 +7,7 @@ use Rattle.tmem_effect.specs.declared.effect.Effect.{Effect}
 use Rattle.tmem_core.specs.Held as core
 use Rattle.tmem_core.specs.Held.{core_state, waiting_of, durable_of}
 use Rattle.tmem_core.specs.Taking.{IsTaken}
-use Rattle.tmem_spine.specs.declared.view.Entry.{Entry}
+use Rattle.tmem_spine.specs.declared.view.MarkedEffect.{MarkedEffect}
 use Rattle.tmem_spine.specs.History.{count, unmarked}
 use Rattle.tmem_spine.specs.Views.{CoreRoleView, JournalRoleView}
 use Rattle.tmem_seats.specs.Histories.{state_after_history}
@@ -30,7 +30,7 @@ its_waiting g c =
     (ap (λ (v : core.CoreView _). v.durable) c.note_durable.ensures) trim.exact was.trimmed was.late trim.least (ap (λ (v : core.CoreView _). v.waiting) c.note_durable.ensures) was.waits
 
 its_aim : (g : _) (c : goal.After-aim g) → IsPrefix c.aim.new.journal.aimed c.self.inside.side.committed
-its_aim g c = subst (λ (l : List Entry). IsPrefix c.aim.new.journal.aimed l) (ap (λ (v : CoreRoleView). v.committed) c.trim_beside-durable.ensures.core) c.aim.ensures.ahead
+its_aim g c = subst (λ (l : List MarkedEffect). IsPrefix c.aim.new.journal.aimed l) (ap (λ (v : CoreRoleView). v.committed) c.trim_beside-durable.ensures.core) c.aim.ensures.ahead
 
 pub returns-clause-goes_on : goal.returns-clause-goes_on
 returns-clause-goes_on g c =
@@ -39,7 +39,7 @@ returns-clause-goes_on g c =
     let durable = c.args.journal.now.durable in
     let batch = c.take.new.batch in
     let aimed = c.aim.new.journal.aimed in
-    let begins : IsPrefix durable aimed = subst (λ (l : List Entry). IsPrefix l aimed) (ap (λ (v : JournalRoleView). v.durable) c.trim_beside-durable.ensures.journal) c.aim.ensures.begins in
+    let begins : IsPrefix durable aimed = subst (λ (l : List MarkedEffect). IsPrefix l aimed) (ap (λ (v : JournalRoleView). v.durable) c.trim_beside-durable.ensures.journal) c.aim.ensures.begins in
     let long : length aimed ≡ length durable + length batch = omega (arith, c.aim.ensures.number, c.trim_beside-durable.ensures.exact, c.len.ensures.len) in
     goes_on g.N.Naming.name.start opening committed durable aimed batch _ c.trim_beside-durable.ensures.begins begins (its_aim g c) long (sym (its_waiting g c) ∙ c.take.ensures.rest) c.take.ensures.few
     (subst (λ (k : ℕ). All (IsLoggable k) batch) (ap (λ (s : State). length s.values) (its_state g c) ∙ values-after opening committed) c.take.ensures.each)
@@ -52,11 +52,11 @@ returns-clause-oldest g c =
     let committed = c.self.inside.side.committed in
     let view : committed ≡ c.args.self.now.committed = ap (λ (v : CoreSeatView). v.committed) c.self.view_is in
     record {
-      ahead = subst (λ (l : List Entry). IsPrefix c.aim.new.journal.aimed l) view (its_aim g c);
-      oldest = subst (λ (l : List Entry). IsTaken (drop (length c.args.journal.now.durable) (unmarked l)) c.take.new.batch) view (subst (λ (l : List Effect). IsTaken l c.take.new.batch) (its_waiting g c) c.take.ensures.taken);
+      ahead = subst (λ (l : List MarkedEffect). IsPrefix c.aim.new.journal.aimed l) view (its_aim g c);
+      oldest = subst (λ (l : List MarkedEffect). IsTaken (drop (length c.args.journal.now.durable) (unmarked l)) c.take.new.batch) view (subst (λ (l : List Effect). IsTaken l c.take.new.batch) (its_waiting g c) c.take.ensures.taken);
       some = λ lt.
           let many : (core_state c.note_durable.new.self).count ≡ count start committed = ap (λ (s : State). s.count) (its_state g c) ∙ count-after g.N.StoreNaming.opening start committed c.self.invariant.starts in
-          let same = ap (λ (l : List Entry). length l) view in
+          let same = ap (λ (l : List MarkedEffect). length l) view in
           let exact = c.trim_beside-durable.ensures.exact in
           c.take.ensures.some (omega arith);
     }

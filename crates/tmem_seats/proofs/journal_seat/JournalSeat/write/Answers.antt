@@ -4,7 +4,7 @@ use Rattle.tmem_effect.specs.Prefix.{IsPrefix}
 use Rattle.tmem_effect.specs.State.{State, StaysWithin}
 use Rattle.tmem_record.specs.declared.layout.Layout.{Layout}
 use Rattle.tmem_effect.proofs.Laws.{IsPrefix-self}
-use Rattle.tmem_spine.specs.declared.view.Entry.{Entry}
+use Rattle.tmem_spine.specs.declared.view.MarkedEffect.{MarkedEffect}
 use Rattle.tmem_spine.specs.History.{count}
 use Rattle.tmem_spine.specs.Views.{JournalRoleView}
 use Rattle.tmem_seats.specs.Histories.{state_after_history}
@@ -37,10 +37,10 @@ invariant_of-self g c =
     let now_durable : c.harden.new.journal.durable ≡ seat.side.aimed = ap (λ (v : JournalRoleView). v.durable) c.harden.ensures in
     let now_aimed : c.harden.new.journal.aimed ≡ seat.side.aimed = ap (λ (v : JournalRoleView). v.aimed) c.harden.ensures in
     record {
-      state = left.state ∙ ap (λ (l : List Entry). state_after_history opening l) (sym now_durable);
+      state = left.state ∙ ap (λ (l : List MarkedEffect). state_after_history opening l) (sym now_durable);
       starts = seat.starts;
-      doubt = ∣ inl (both left.doubt ∙ ap (λ (l : List Entry). state_after_history opening l) (sym now_durable)) ∣₁;
-      begins = subst (λ (l : List Entry). IsPrefix l c.harden.new.journal.aimed) (now_aimed ∙ sym now_durable) (IsPrefix-self c.harden.new.journal.aimed);
+      doubt = ∣ inl (both left.doubt ∙ ap (λ (l : List MarkedEffect). state_after_history opening l) (sym now_durable)) ∣₁;
+      begins = subst (λ (l : List MarkedEffect). IsPrefix l c.harden.new.journal.aimed) (now_aimed ∙ sym now_durable) (IsPrefix-self c.harden.new.journal.aimed);
       over = ap (λ (l : Layout). l.vars) c.flush-flushed.ensures.layout ∙ seat.over;
     }
 
@@ -63,7 +63,7 @@ returns-then-is_ok-clause-ok g c =
     let now_durable : c.harden.new.journal.durable ≡ aimed = ap (λ (v : JournalRoleView). v.durable) c.harden.ensures in
     ok_number c.flush-flushed.result (λ n. (c.harden.new.journal.durable ≡ aimed) × (n ≡ count start c.harden.new.journal.durable)) (λ n is. (
       now_durable,
-      (written_number start g.N.StoreNaming.opening seat.side.durable aimed seat.batch c.requires.goes_on seat.journal c.flush-flushed.new.self seat.state c.flush-flushed.result n is c.flush-flushed.ensures.flushed ∙ count-after g.N.StoreNaming.opening start aimed seat.starts) ∙ ap (λ (l : List Entry). count start l) (sym now_durable),
+      (written_number start g.N.StoreNaming.opening seat.side.durable aimed seat.batch c.requires.goes_on seat.journal c.flush-flushed.new.self seat.state c.flush-flushed.result n is c.flush-flushed.ensures.flushed ∙ count-after g.N.StoreNaming.opening start aimed seat.starts) ∙ ap (λ (l : List MarkedEffect). count start l) (sym now_durable),
     ))
 
 pub returns-then-is_ok-clause-any_moment : goal.returns-then-is_ok-clause-any_moment

@@ -7,4 +7,4 @@ pub fetch_add-requires : goal.fetch_add-requires
 fetch_add-requires g c =
     let spine = c.args.self.now.named in
     let len = ap (λ (v : View). length v.committed) c.core.view_is in
-    (c.core.invariant.table ∙ sym spine.0, omega (arith, spine.2), accepts _ _ _ _ _ g.C.Choice.entry (rw c.core.view_is c.requires.role) (omega (arith, c.requires.room, c.core.invariant.based, len)))
+    (c.core.invariant.table ∙ sym spine.0, omega (arith, spine.2), accepts _ _ _ _ _ g.C.Choice.picked (rw c.core.view_is c.requires.role) (omega (arith, c.requires.room, c.core.invariant.based, len)))

@@ -5,7 +5,7 @@ use Rattle.std.proofs.lemmas.Int.{to_z-of_z}
 use Rattle.std.proofs.lemmas.Option.{get_or_from_slice_get}
 use Rattle.indexmap.specs.IndexMap.{insert_entry}
 use Rattle.tmem_effect.specs.Names.{has_name}
-use Rattle.tmem_effect.specs.Writes.{look}
+use Rattle.tmem_effect.specs.Writes.{value_in}
 use Rattle.tmem_tree.specs.Shapes.{AreMeant, names_of}
 use Rattle.tmem_tentative.specs.Cursors.{attempt_of, probe_of}
 use Rattle.tmem_tentative.specs.declared.attempt.Outcome.TheVariants as outcome
@@ -48,7 +48,7 @@ returns-in-Ok-Need-clause-begun g c = λ plan is going.
     let lacks = rw c.in-Ok-Need.field-0-is at c.in-Ok-Need.ensures.fits in (
       comes_to (g.S.StoredSteps.is_stated c.args.steps.now) (g.T.Invariants.is_stated (core_table core)) c.args.self.now.plan plan c.in-Some.plan is c.in-Some.is fits.shapes c.args.self.now.cursor c.advance.new.self
           so.given so.answers (outcome.Need var) (rw c.in-Ok-Need.field-0-is at c.in-Ok-Need.ensures.right),
-      ap (λ (rs : List (ℕ × ℤ)). look rs var) (sym so.given) ∙ lacks,
+      ap (λ (rs : List (ℕ × ℤ)). value_in rs var) (sym so.given) ∙ lacks,
       to_z-of_z w64 c.peek-value.result signed ∙ sym (get_or_from_slice_get (core_state core).values var c.peek-value.result (pos 0) c.peek-value.ensures),
       c.give.ensures.given ∙ ap (λ (rs : List (ℕ × ℤ)). insert_entry nat_eq rs var value) so.given,
       c.give.ensures.answers ∙ so.answers,

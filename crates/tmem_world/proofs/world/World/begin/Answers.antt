@@ -12,7 +12,7 @@ use Rattle.tmem_world.specs.WorldModel.{holding, attempt_at, Begun, IsPlanFault}
 use Rattle.tmem_event.specs.declared.event.Reply.TheVariants as reply
 use Rattle.tmem_world.specs.Replies.{failures_by}
 use Rattle.tmem_world.specs.Represents.{world_disk, held_of, setting_of}
-use Rattle.tmem_world.proofs.Points.{attempts_answered, in_session, with_attempt, same_point, attempt_holds, same_attempt}
+use Rattle.tmem_world.proofs.Points.{attempts_answered, with_core, with_attempt, same_point, attempt_holds, same_attempt}
 use Rattle.tmem_world.proofs.HeldAttempts.{begun_fits, held_again}
 use Rattle.tmem_world.proofs.world.World.begin.Goals as goal
 
@@ -25,7 +25,7 @@ returns-in-Ok-begin g c =
     attempts_answered w _ _ _ refl refl refl (g.met.D.Disk.is_device (world_disk w))
     (λ program means m r keeps. (
       holding m c.args.attempt (Begun c.args.tx [] 0),
-      in_session program (held_of w) m _ _ _ r.session (search rules) (subst (λ (ns : List (List ℕ)). BreaksNone (g.S.StoredSteps.arities w.steps) w.layout.vars ns c.args.tx) (ap names_of c.deref.ensures.value ∙ w.named ∙ sym means.invariants.names) c.in-Ok.ensures.fine, refl),
+      with_core program (held_of w) m _ _ _ r.held (search rules) (subst (λ (ns : List (List ℕ)). BreaksNone (g.S.StoredSteps.arities w.steps) w.layout.vars ns c.args.tx) (ap names_of c.deref.ensures.value ∙ w.named ∙ sym means.invariants.names) c.in-Ok.ensures.fine, refl),
       with_attempt program w _ m c.args.attempt new (Begun c.args.tx [] 0) r
           (record { plan = ap (option_map (λ (p : PlanView). p.tree)) so.plan ∙ ap Some is; at = subst (λ (p : Tx). IsAt program.steps program.tests p new.cursor) is (so.at program.steps program.tests); given = so.given }, ap length so.answers, so.going) refl refl refl,
     )) tt (λ n. refl) tt
@@ -42,7 +42,7 @@ returns-in-Err-begin g c =
     let fine = subst (λ (ns : List (List ℕ)). BreaksNone (g.S.StoredSteps.arities w.steps) w.layout.vars ns c.args.tx) (ap names_of c.deref.ensures.value ∙ w.named ∙ sym means.invariants.names) c.in-Ok.ensures.fine in
     let may : IsPlanFault (setting_of w program) c.args.tx c.in-Err-begin.fault = subst (λ (f : Fault). IsPlanFault (setting_of w program) c.args.tx f) (sym so.same.0) fine in (
       holding m c.args.attempt (attempt_at m c.args.attempt),
-      in_session program (held_of w) m _ _ _ r.session (search rules) (may, same_attempt m c.args.attempt),
+      with_core program (held_of w) m _ _ _ r.held (search rules) (may, same_attempt m c.args.attempt),
       with_attempt program w _ m c.args.attempt new (attempt_at m c.args.attempt) r (held_again program (attempt_at m c.args.attempt) old new so.same.1 so.same.2 so.stays_at (attempt_holds program _ m c.args.attempt old r below c.index_mut.ensures.value)) refl refl refl,
     )) tt (λ n. ap (λ (f : Fault). failures_by (reply.Fault f) n) so.same.0) tt
 
@@ -53,7 +53,7 @@ returns-in-Err g c =
     attempts_answered w _ _ _ refl refl refl (g.met.D.Disk.is_device (world_disk w))
     (λ program means m r keeps.
     let so = subst (λ (ns : List (List ℕ)). IsLeastBroken (g.S.StoredSteps.arities w.steps) w.layout.vars ns c.args.tx least.0) (ap names_of c.deref.ensures.value ∙ w.named ∙ sym means.invariants.names) least.2 in
-    (m, in_session program (held_of w) m _ _ _ r.session (search rules) (rw least.1 so, refl), same_point _ _ refl program m r refl refl)) tt (λ n. ap (λ (f : Fault). failures_by (reply.Fault f) n) least.1) tt
+    (m, with_core program (held_of w) m _ _ _ r.held (search rules) (rw least.1 so, refl), same_point _ _ refl program m r refl refl)) tt (λ n. ap (λ (f : Fault). failures_by (reply.Fault f) n) least.1) tt
 
 pub invariant_of-self-2 : goal.invariant_of-self-2
 invariant_of-self-2 g c =

@@ -47,11 +47,11 @@ pub returns-clause-found : goal.returns-clause-found
 returns-clause-found g c =
     let x = c.in-Ok.opening in
     let so = c.in-Ok.ensures.opened in
-    let begun = c.begin-session.ensures in (
+    let begun = c.of-both.ensures in (
       found_of x,
       opening_position x,
       λ program means.
-          opens program x c.begin-session.result.0 begun.core begun.journal _ refl c.in-Ok-empty_attempts.ensures.len c.in-Ok-empty_attempts.ensures.emptied (g.D.Disk.view c.args.disk).failures so.uses.failures
+          opens program x c.of-both.result.0 begun.core begun.journal _ refl c.in-Ok-empty_attempts.ensures.len c.in-Ok-empty_attempts.ensures.emptied (g.D.Disk.view c.args.disk).failures so.uses.failures
           c.args.table so.sound (subst (λ k. IsProgramOf g.T.Invariants k program) (ap (λ k. k.table) begun.core ∙ so.holds) means.invariants),
       λ k. subst (λ j. FindsState c.args.vars c.args.slots (g.D.Disk.view c.args.disk) (journal.journal_device j) (opening_position x) (found_of x)) (sym begun.journal) (so.found (subst (λ j. (journal.journal_device j).keeps_model) begun.journal k)),
     )
@@ -60,29 +60,29 @@ pub returns-clause-recovers : goal.returns-clause-recovers
 returns-clause-recovers g c = λ program a b means sound_a sound_b fits left keeps.
     let x = c.in-Ok.opening in
     let so = c.in-Ok.ensures.opened in
-    let begun = c.begin-session.ensures in (
+    let begun = c.of-both.ensures in (
       found_of x,
       opening_position x,
       c.in-Ok.ensures.recovers program a b means.invariants sound_a sound_b fits left (subst (λ j. (journal.journal_device j).keeps_model) begun.journal keeps),
-      opens program x c.begin-session.result.0 begun.core begun.journal _ refl c.in-Ok-empty_attempts.ensures.len c.in-Ok-empty_attempts.ensures.emptied (g.D.Disk.view c.args.disk).failures so.uses.failures
+      opens program x c.of-both.result.0 begun.core begun.journal _ refl c.in-Ok-empty_attempts.ensures.len c.in-Ok-empty_attempts.ensures.emptied (g.D.Disk.view c.args.disk).failures so.uses.failures
           c.args.table so.sound means.invariants,
     )
 
 pub returns-clause-mends : goal.returns-clause-mends
 returns-clause-mends g c =
-    subst (λ j. Mending c.args.vars c.args.slots (g.D.Disk.view c.args.disk) (journal.journal_device j)) (sym c.begin-session.ensures.journal) c.in-Ok.ensures.opened.mends
+    subst (λ j. Mending c.args.vars c.args.slots (g.D.Disk.view c.args.disk) (journal.journal_device j)) (sym c.of-both.ensures.journal) c.in-Ok.ensures.opened.mends
 
 pub returns-clause-chain : goal.returns-clause-chain
 returns-clause-chain g c = λ program h means store keeps.
     let old = g.D.Disk.view c.args.disk in
     let x = c.in-Ok.opening in
     let so = c.in-Ok.ensures.opened in
-    let begun = c.begin-session.ensures in
+    let begun = c.of-both.ensures in
     let keeps' = subst (λ j. (journal.journal_device j).keeps_model) begun.journal keeps in
     let safe = store.device.each (so.uses.model keeps') old.seen ((g.met.D.Disk.is_device c.args.disk).seen_may_stay (so.uses.model keeps')) in
     let was = (so.found keeps').was in
     let is = state_is c.represents_one.ensures program c.args.vars c.args.slots store.fits.layout h old store safe was.position (found_of x) was.stands in
-    let point = opens program x c.begin-session.result.0 begun.core begun.journal _ refl c.in-Ok-empty_attempts.ensures.len c.in-Ok-empty_attempts.ensures.emptied old.failures so.uses.failures c.args.table so.sound means.invariants in
+    let point = opens program x c.of-both.result.0 begun.core begun.journal _ refl c.in-Ok-empty_attempts.ensures.len c.in-Ok-empty_attempts.ensures.emptied old.failures so.uses.failures c.args.table so.sound means.invariants in
     let same = ap (λ l. l.vars) c.layout.ensures ∙ ap (λ j. (journal.journal_layout j).vars) begun.journal ∙ so.fits.0 in
     let log = ap (λ l. l.slots) c.layout.ensures ∙ ap (λ j. (journal.journal_layout j).slots) begun.journal ∙ so.fits.1 in
     let stands = subst (λ s. FindsState c.args.vars c.args.slots old (opening_device x) (opening_position x) s) is.1 (so.found keeps') in
@@ -124,16 +124,16 @@ pub returns-in-Err-empty_attempts-clause-untouched : goal.returns-in-Err-empty_a
 returns-in-Err-empty_attempts-clause-untouched g c = λ unfit. absurd (unfit c.in-Ok.ensures.opened.fits.2)
 
 pub returns-clause-table : goal.returns-clause-table
-returns-clause-table g c = ap (λ k. k.table) c.begin-session.ensures.core ∙ c.in-Ok.ensures.opened.holds
+returns-clause-table g c = ap (λ k. k.table) c.of-both.ensures.core ∙ c.in-Ok.ensures.opened.holds
 
 pub returns-clause-uses : goal.returns-clause-uses
 returns-clause-uses g c =
-    subst (λ j. Uses {T = Unit {0}} (g.D.Disk.view c.args.disk) (journal.journal_device j) (Ok tt)) (sym c.begin-session.ensures.journal) c.in-Ok.ensures.opened.uses
+    subst (λ j. Uses {T = Unit {0}} (g.D.Disk.view c.args.disk) (journal.journal_device j) (Ok tt)) (sym c.of-both.ensures.journal) c.in-Ok.ensures.opened.uses
 
 pub returns-clause-fits : goal.returns-clause-fits
 returns-clause-fits g c =
     let so = c.in-Ok.ensures.opened.fits in
-    let begun = c.begin-session.ensures.journal in (
+    let begun = c.of-both.ensures.journal in (
       ap (λ l. l.vars) c.layout.ensures ∙ ap (λ j. (journal.journal_layout j).vars) begun ∙ so.0,
       ap (λ l. l.slots) c.layout.ensures ∙ ap (λ j. (journal.journal_layout j).slots) begun ∙ so.1,
       tt,

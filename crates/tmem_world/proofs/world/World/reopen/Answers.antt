@@ -29,7 +29,7 @@ returns-in-Ok g c =
     let parts = c.into_parts-disk.ensures in
     let x = c.in-Ok.opening in
     let so = c.in-Ok.ensures.opened in
-    let begun = c.begin-session.ensures in
+    let begun = c.of-both.ensures in
     let was = taken w c.unwrap.result c.into_parts-disk.result.0 c.into_parts-disk.result.1 (held_is w.held w.here c.unwrap.result (sym c.take.ensures.value ∙ c.unwrap.ensures)) parts.disk parts.table in
     let it = was (λ disk table. IsOpened w.layout.vars w.layout.slots table (g.D.Disk.view disk) x) so in
     let either = was (λ disk table. RecoversEither FoundIs (IsProgramOf g.T.Invariants table) w.layout.vars w.layout.slots (g.D.Disk.view disk) (opening_device x) (Ok x)) c.in-Ok.ensures.recovers in
@@ -39,7 +39,7 @@ returns-in-Ok g c =
       table = ap (λ k. k.table) begun.core ∙ it.holds;
       model = λ k. it.uses.model (subst (λ j. (journal.journal_device j).keeps_model) begun.journal k);
     } in
-    found_answered w _ kept c.clear.ensures.emptied (c.clear.ensures.len ∙ w.sized) x it either c.begin-session.result.0 refl begun.core begun.journal c.count-count.result c.count-count.ensures c.represents_one.ensures (g.met.D.Disk.is_device (world_disk w))
+    found_answered w _ kept c.clear.ensures.emptied (c.clear.ensures.len ∙ w.sized) x it either c.of-both.result.0 refl begun.core begun.journal c.count-count.result c.count-count.ensures c.represents_one.ensures (g.met.D.Disk.is_device (world_disk w))
 
 pub invariant_of-left-clause-current : goal.invariant_of-left-clause-current
 invariant_of-left-clause-current g c =
@@ -72,7 +72,7 @@ invariant_of-self g c =
     let w = c.args.self.now in
     let parts = c.into_parts-disk.ensures in
     let x = c.in-Ok.opening in
-    let begun = c.begin-session.ensures in
+    let begun = c.of-both.ensures in
     let was = taken w c.unwrap.result c.into_parts-disk.result.0 c.into_parts-disk.result.1 (held_is w.held w.here c.unwrap.result (sym c.take.ensures.value ∙ c.unwrap.ensures)) parts.disk parts.table in
     let it = was (λ disk table. IsOpened w.layout.vars w.layout.slots table (g.D.Disk.view disk) x) c.in-Ok.ensures.opened in
     let table = ap (λ k. k.table) begun.core ∙ it.holds in

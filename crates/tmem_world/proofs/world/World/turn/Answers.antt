@@ -8,7 +8,7 @@ use Rattle.tmem_world.specs.declared.held.Held.TheVariants.{With}
 use Rattle.tmem_world.specs.Attempts.{FitsAttempt}
 use Rattle.tmem_world.specs.WorldModel.{holding, attempt_at}
 use Rattle.tmem_world.specs.Represents.{world_disk, held_of}
-use Rattle.tmem_world.proofs.Points.{attempts_answered, given, held_is, is_with, in_session, with_attempt, attempt_holds, session_at, core_means, turns_without, session_of_it, held_as}
+use Rattle.tmem_world.proofs.Points.{attempts_answered, given, held_is, is_with, with_core, with_attempt, attempt_holds, both_at, core_means, turns_without, both_of_it, held_as}
 use Rattle.tmem_world.proofs.HeldAttempts.{slot_there, slot_within, slot_fits, fits_after, fits_table}
 use Rattle.tmem_world.proofs.TurnedPoints.{turns}
 use Rattle.tmem_world.proofs.world.World.turn.Goals.{in_default-via-in-Some+in-Without-1, in_default-via-in-None-1}
@@ -17,14 +17,14 @@ use Rattle.tmem_world.proofs.world.World.turn.Goals as goal
 pub turn-requires : goal.turn-requires
 turn-requires g c =
     let w = c.args.self.now in
-    let o = c.in-Some-With.session in
+    let o = c.in-Some-With.both in
     let before : held_of w ≡ With o = held_is w.held w.here (With o) (search rules) in
     fits_table w o before c.index_mut.result.now (slot_fits w c.args.attempt c.index_mut.result.now c.requires c.index_mut.ensures.value)
 
 pub invariant_of-self : goal.invariant_of-self
 invariant_of-self g c =
     let w = c.args.self.now in
-    let o = c.in-Some-With.session in
+    let o = c.in-Some-With.both in
     let before : held_of w ≡ With o = held_is w.held w.here (With o) (search rules) in
     let known = names_of w.shapes.items in
     let tested : Meanings → Type 0 = λ tests. AreMeant tests w.shapes.items in
@@ -43,7 +43,7 @@ invariant_of-self g c =
 pub returns-in-Some-With : goal.returns-in-Some-With
 returns-in-Some-With g c =
     let w = c.args.self.now in
-    let o = c.in-Some-With.session in
+    let o = c.in-Some-With.both in
     given {A = held_of w ≡ With o} (held_is w.held w.here (With o) (search rules)) (λ before.
     let below = slot_there w c.args.attempt c.requires in
     let old = c.index_mut.result.now in
@@ -53,9 +53,9 @@ returns-in-Some-With g c =
     (λ program means m r keeps.
     let holds = attempt_holds program _ m c.args.attempt old r below c.index_mut.ensures.value in
     let tests = (core_means program w o before means).tests in
-    let done = turns program m c.args.attempt old new (core_state o.core) (session_at program w m o before r).state (g.S.StoredSteps.is_stated w.steps) means.steps (g.T.Invariants.is_stated (core_table o.core)) tests
+    let done = turns program m c.args.attempt old new (core_state o.core) (both_at program w m o before r).state (g.S.StoredSteps.is_stated w.steps) means.steps (g.T.Invariants.is_stated (core_table o.core)) tests
     (attempt_at m c.args.attempt) c.turn.result refl holds so.idle so.ended so.begun (λ plan is. so.at plan program.steps program.tests is means.steps tests) so.plan in
-    (holding m c.args.attempt done.0, in_session program (held_of w) m _ _ _ r.session (is_with (held_of w) o before) done.1, with_attempt program w _ m c.args.attempt new done.0 r done.2 refl refl refl)) tt so.failures tt)
+    (holding m c.args.attempt done.0, with_core program (held_of w) m _ _ _ r.held (is_with (held_of w) o before) done.1, with_attempt program w _ m c.args.attempt new done.0 r done.2 refl refl refl)) tt so.failures tt)
 
 pub returns-in_default : goal.returns-in_default
 returns-in_default g c =
@@ -64,7 +64,7 @@ returns-in_default g c =
     elim c.in_default.branch [
       | in_default-via-in-Some+in-Without-1 v ↦
           let same : new.held ≡ w.held = search rules in
-          turns_without w new c.args.attempt (λ it. let o = session_of_it (held_of w) it in let there : w.held ≡ Some (With o.0) = held_as w.held w.here (With o.0) o.1 in search rules) (ap (λ x. x.layout) v.self-is) (ap (λ x. x.steps) v.self-is) same (ap (λ x. x.attempts.items) v.self-is) (g.met.D.Disk.is_device (world_disk w))
+          turns_without w new c.args.attempt (λ it. let o = both_of_it (held_of w) it in let there : w.held ≡ Some (With o.0) = held_as w.held w.here (With o.0) o.1 in search rules) (ap (λ x. x.layout) v.self-is) (ap (λ x. x.steps) v.self-is) same (ap (λ x. x.attempts.items) v.self-is) (g.met.D.Disk.is_device (world_disk w))
       | in_default-via-in-None-1 v ↦ absurd (search rules)
     ]
 
