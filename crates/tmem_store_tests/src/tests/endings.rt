@@ -1,8 +1,8 @@
 //! How each wait ends: by a commit or a flush, and else as the front does.
 use super::moves::Answer::{Committed, Done, Nothing, Number, Refused};
 use super::moves::Move::{
-    Attempt, Await, AwaitHeld, Checkpoint, Close, Commit, CommitDurable, FaultOf, Fill, FillBy,
-    Flush, HoldSyncs, Look, Release, RunFlusher, Settle, Shut, Sleep, TryCommit,
+    Attempt, Await, AwaitHeld, AwaitTries, Checkpoint, Close, Commit, CommitDurable, FaultOf, Fill,
+    FillBy, Flush, HoldSyncs, Look, Release, RunFlusher, Settle, Shut, Sleep, TryCommit,
 };
 use super::moves::{Answer, Refusal, Task};
 use super::scenes::Line::{
@@ -113,7 +113,7 @@ static SCENES: &[Line<'static>] = &[
     Second(Await(0), CLOSED),
     Second(Sleep(200), Done),
     Second(Release, Done),
-    Third(Sleep(50), Done),
+    Third(AwaitTries(1), Done),
     Third(Shut, Done),
     Third(Close, Done),
     Third(Look, Number(1)),

@@ -1,12 +1,13 @@
 //! Calls that wait for no longer than a time.
 use super::moves::Answer::{Committed, Done, Holds, Late, Number, Refused, Retried, Saw};
 use super::moves::Move::{
-    Acquire, AcquireWithin, AwaitHeld, AwaitWithin, Close, CommitWithin, Count, Flush, HoldSteps,
-    HoldSyncs, NeedsAtMost, NewPasses, Release, ReleasePass, Shut, Sleep, TriesAtMost, TryCommit,
+    Acquire, AcquireWithin, Advance, AwaitHeld, AwaitTries, AwaitWithin, Close, CommitWithin,
+    Count, Flush, HoldSteps, HoldSyncs, NeedsAtMost, NewPasses, Release, ReleasePass, Shut, Sleep,
+    TriesAtMost, TryCommit,
 };
 use super::moves::{Answer, Refusal, Task};
 use super::scenes::Line::{
-    After, Before, ClockReadings, First, Last, Scene, Second, SkipSeconds, Third,
+    After, Before, ClockReadings, ClockStands, First, Last, Scene, Second, SkipSeconds, Third,
 };
 use super::scenes::{Line, play};
 use std::test::Fail;
@@ -30,7 +31,7 @@ static SCENES: &[Line<'static>] = &[
     First(AwaitWithin(0, 30), Late),
     Second(CommitWithin(Task::NeedOne, 30), Retried),
     Third(AwaitWithin(0, 0), Late),
-    // each looked once before it slept, once or twice when the time was over, and once more after the last attempt
+    // each tried once before it slept, once or twice when the time was over, and once more after the last attempt
     After(TriesAtMost(16), Holds(true)),
     After(NeedsAtMost(2), Holds(true)),
     After(Count, Number(0)),
@@ -61,49 +62,60 @@ static SCENES: &[Line<'static>] = &[
     First(Close, Done),
     Second(AwaitHeld(1), Done),
     Second(AwaitWithin(0, 50), Late),
+    Second(Release, Done),
     Second(AwaitWithin(0, LONG), Done),
+    Third(AwaitHeld(1), Done),
+    Third(AwaitWithin(0, LONG), Done),
     Last(AwaitHeld(1), Done),
-    Last(Sleep(300), Done),
-    Last(Release, Done),
     Scene("the last attempt is made after the time is over"),
+    ClockStands,
     Before(HoldSteps(2), Done),
     First(CommitWithin(Task::AddOnceThereIsOne, 50), Committed(1)),
     Last(AwaitHeld(1), Done),
     // the time is over, and this attempt retries
-    Last(Sleep(200), Done),
+    Last(Advance(200), Done),
     Last(Release, Done),
     Last(AwaitHeld(2), Done),
     Last(TryCommit(Task::Write(2, 1)), Committed(0)),
     Last(Release, Done),
     Scene("a thread that is woken sleeps for what is left"),
+    ClockStands,
     First(CommitWithin(Task::NeedOne, 2000), Retried),
-    Last(Sleep(1500), Done),
+    Last(AwaitTries(1), Done),
+    Last(Advance(1900), Done),
     Last(TryCommit(Task::Write(2, 0)), Committed(0)),
-    Last(Sleep(1500), Done),
-    Last(Shut, Done),
+    // it tries again ten times a second
+    Last(AwaitTries(12), Done),
+    Last(Advance(100), Done),
     Scene("a wait with a limit below a second does not end at once"),
+    ClockStands,
     // with the one in hand and those that the threads take first, one is left for the pool
     Before(NewPasses(26), Number(26)),
     First(Acquire, Done),
     First(CommitWithin(Task::NeedOne, 900), Saw(1, ONE)),
     First(ReleasePass, Done),
     Second(AwaitWithin(0, 900), Done),
-    Third(Sleep(300), Done),
+    Third(AwaitTries(2), Done),
     Third(AcquireWithin(900), Done),
-    Last(Sleep(500), Done),
-    // each of the three has looked, and sleeps
+    Last(AwaitTries(3), Done),
+    // each of the three has tried, and sleeps
+    Last(Sleep(100), Done),
     Last(TriesAtMost(8), Holds(true)),
     Last(TryCommit(Task::Write(2, 1)), Committed(0)),
     Last(Flush, Number(1)),
     Scene("a wait with a limit lasts for more than a half of it"),
+    ClockStands,
     Before(NewPasses(26), Number(26)),
     First(Acquire, Done),
     First(CommitWithin(Task::NeedOne, 3000), Saw(1, ONE)),
     First(ReleasePass, Done),
     Second(AwaitWithin(0, 3000), Done),
-    Third(Sleep(300), Done),
+    Third(AwaitTries(2), Done),
     Third(AcquireWithin(3000), Done),
-    Last(Sleep(2000), Done),
+    Last(AwaitTries(3), Done),
+    Last(Advance(2000), Done),
+    // each tries again after three seconds
+    Last(AwaitTries(6), Done),
     Last(TryCommit(Task::Write(2, 1)), Committed(0)),
     Last(Flush, Number(1)),
     Scene("a wait with the longest limit is not over at once"),
@@ -130,9 +142,9 @@ static SCENES: &[Line<'static>] = &[
     First(CommitWithin(Task::NeedOne, YEARS), Saw(1, ONE)),
     First(ReleasePass, Done),
     Second(AwaitWithin(0, YEARS), Done),
-    Third(Sleep(300), Done),
+    Third(AwaitTries(2), Done),
     Third(AcquireWithin(YEARS), Done),
-    Last(Sleep(500), Done),
+    Last(AwaitTries(3), Done),
     Last(TryCommit(Task::Write(2, 1)), Committed(0)),
     Last(Flush, Number(1)),
 ];

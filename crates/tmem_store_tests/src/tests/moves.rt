@@ -138,10 +138,14 @@ pub(super) enum Move {
     NeedsAtMost(u64),
     /// Whether so many turns of a pace began with a whole batch.
     FullTurnsAre(u64),
-    /// Whether the calls that wait have looked so often at the most.
+    /// Whether the calls that wait have tried so often at the most.
     TriesAtMost(u64),
-    /// Whether they have looked so often at the least.
-    TriesAtLeast(u64),
+    /// Waits until they have tried so often, for ten seconds at the most.
+    AwaitTries(u64),
+    /// Waits until a variable has a value, for ten seconds at the most.
+    AwaitValue(u16, i64),
+    /// Lets a clock that stands still go on by so many milliseconds.
+    Advance(u64),
 }
 
 /// Which fault a move is refused with, without what some faults carry: so a line is plain data, and stands in a table.

@@ -47,7 +47,7 @@ fn the_last_name_is_asked_for_too(rt: HostRuntime) -> Result<(), Fail> {
 fn a_release_tells_where_a_sync_was_not_held_until_then(rt: HostRuntime) -> Result<(), Fail> {
     let signals = Signals::new();
     // no sleep by it lasts
-    let clock = Skipping::new(&rt, Duration::ZERO, 0);
+    let clock = Skipping::new(&rt, None, Duration::ZERO, 0);
     signals.hold_syncs(2);
     assert!(&rt; signals.release());
     signals.meet_sync(&clock);

@@ -1,8 +1,8 @@
 //! One caller or two passes: what they are answered, one after another.
 use super::moves::Answer::{Aborted, Committed, Done, Number, Refused, Retried, Saw, Value};
 use super::moves::Move::{
-    Acquire, Attempt, Commit, CommitDurable, CommitWithin, Count, Fill, Flush, Look, NewPass,
-    NewPasses, OtherPass, Peek, ReleasePass, Seen, Settle, Shut, Sleep, TryCommit, Vouch,
+    Acquire, Attempt, AwaitTries, Commit, CommitDurable, CommitWithin, Count, Fill, Flush, Look,
+    NewPass, NewPasses, OtherPass, Peek, ReleasePass, Seen, Settle, Shut, Sleep, TryCommit, Vouch,
 };
 use super::moves::{Answer, Refusal, Task};
 use super::scenes::Line::{After, Before, First, Last, Scene, Second, Third, Vars};
@@ -88,7 +88,7 @@ static SCENES: &[Line<'static>] = &[
     Before(Attempt(Task::Choose), Done),
     Before(Settle, Committed(3)),
     First(CommitDurable(Task::Choose), Committed(4)),
-    Last(Sleep(50), Done),
+    Last(AwaitTries(1), Done),
     Last(Flush, Number(5)),
     Scene("a full front answers at once what needs no room"),
     Before(Fill(256), Number(256)),

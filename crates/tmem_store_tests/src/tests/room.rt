@@ -1,9 +1,9 @@
 //! Callers that wait for room, and those that wait until what they committed is durable.
 use super::moves::Answer::{Committed, Done, Holds, Number, Refused, Saw, Value};
 use super::moves::Move::{
-    AddWithRoom, AddsAtMost, Await, AwaitHeld, Close, CommitDurable, FaultOf, Fill, Flush,
-    HoldSyncs, Look, NewPass, Peek, Release, RunFlusher, Seen, Shut, Sleep, TriesAtLeast,
-    TriesAtMost, TryCommit,
+    AddWithRoom, AddsAtMost, Await, AwaitHeld, AwaitTries, Close, CommitDurable, FaultOf, Fill,
+    Flush, HoldSyncs, Look, NewPass, Peek, Release, RunFlusher, Seen, Shut, Sleep, TriesAtMost,
+    TryCommit,
 };
 use super::moves::{Answer, Refusal, Task};
 use super::scenes::Line::{After, Before, FailSync, First, FirstThree, Last, Scene, Second, Third};
@@ -23,11 +23,11 @@ static SCENES: &[Line<'static>] = &[
     Scene("a flush wakes each thread that waits for room"),
     Before(Fill(256), Number(256)),
     FirstThree(AddWithRoom(1), Number(1)),
+    Last(AwaitTries(3), Done),
     Last(Sleep(100), Done),
     // they have not added yet
     Last(Peek(0), Value(1)),
     Last(TriesAtMost(12), Holds(true)),
-    Last(TriesAtLeast(3), Holds(true)),
     Last(AddsAtMost(12), Holds(true)),
     Last(Flush, Number(64)),
     After(Peek(0), Value(4)),
@@ -69,7 +69,7 @@ static SCENES: &[Line<'static>] = &[
     Before(CommitDurable(WRITE), CLOSED),
     Scene("a transaction whose front is shut first is unknown"),
     First(CommitDurable(WRITE), UNKNOWN),
-    Last(Sleep(200), Done),
+    Last(AwaitTries(1), Done),
     Last(Shut, Done),
     After(Peek(0), Value(1)),
     // the flush of a front that is shut goes on
@@ -77,7 +77,7 @@ static SCENES: &[Line<'static>] = &[
     Scene("what was read is unknown where the front is shut first"),
     Before(TryCommit(Task::Write(2, 1)), Committed(0)),
     First(CommitDurable(Task::NeedOne), UNKNOWN),
-    Last(Sleep(200), Done),
+    Last(AwaitTries(1), Done),
     Last(Shut, Done),
     Scene("a transaction whose device fails is unknown"),
     FailSync(2),

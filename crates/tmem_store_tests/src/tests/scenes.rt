@@ -46,6 +46,8 @@ pub(super) enum Line<'a> {
     SkipSeconds(u64),
     /// How often the clock can be read in a wait that has a limit.
     ClockReadings(u64),
+    /// The clock of a wait that has a limit stands still, but where a move lets it go on.
+    ClockStands,
     /// Its image is of the last generation, so that no checkpoint can be made.
     LastImage,
     /// What one thread does before the others start, and what that has to be answered.
@@ -121,6 +123,16 @@ fn skip_of(lines: &[Line]) -> Duration {
         }
     }
     skip
+}
+
+// Whether it stands still.
+fn stands(lines: &[Line]) -> bool {
+    for line in lines {
+        if matches!(*line, Line::ClockStands) {
+            return true;
+        }
+    }
+    false
 }
 
 // How often it can be read.
@@ -465,6 +477,7 @@ fn play_scene<R: Clock + Threads + Wait + Sync>(
         lines,
         skip: skip_of(lines),
         readings: readings_of(lines),
+        stands: stands(lines),
     };
     match play_on_stage(&stage) {
         Ok(wrong) => wrong,

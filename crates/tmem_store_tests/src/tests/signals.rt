@@ -7,7 +7,7 @@ use std::thread::{self, yield_now};
 use std::time::Duration;
 
 /// How many milliseconds a sync is held, or a thread is waited for, at the most.
-const MOST_TURNS: u64 = 10_000;
+pub(super) const MOST_TURNS: u64 = 10_000;
 
 /// How often a step that is held lets others run, at the most.
 const MOST_YIELDS: u64 = 20_000_000;
@@ -29,6 +29,7 @@ pub(super) struct Signals {
     begun: AtomicU64,
     ended: AtomicU64,
     calls: AtomicU64,
+    millis: AtomicU64,
 }
 
 impl Signals {
@@ -46,6 +47,7 @@ impl Signals {
             begun: AtomicU64::new(0),
             ended: AtomicU64::new(0),
             calls: AtomicU64::new(0),
+            millis: AtomicU64::new(0),
         }
     }
 
@@ -145,6 +147,16 @@ impl Signals {
     /// How often the device was called.
     pub(super) fn calls(&self) -> u64 {
         self.calls.load(Ordering::SeqCst)
+    }
+
+    /// Lets a clock that stands still go on by so many milliseconds.
+    pub(super) fn advance(&self, millis: u64) {
+        self.millis.fetch_add(millis, Ordering::SeqCst);
+    }
+
+    /// What such a clock shows, from 0.
+    pub(super) fn time(&self) -> Duration {
+        Duration::from_millis(self.millis.load(Ordering::SeqCst))
     }
 
     /// Counts that a thread has its pass, and waits until so many have theirs. Answers whether that came in time.

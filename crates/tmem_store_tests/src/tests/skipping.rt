@@ -1,4 +1,5 @@
-//! A clock that goes on by a time at each reading, and cannot be read any more after some.
+//! A clock that goes on by a time at each reading, or stands still, and cannot be read any more after some.
+use super::signals::Signals;
 use std::io;
 use std::rt::Clock;
 use std::sync::Wait;
@@ -9,17 +10,24 @@ use std::time::Duration;
 #[derive(Drop)]
 pub(super) struct Skipping<'a, R> {
     rt: &'a R,
+    time: Option<&'a Signals>,
     skip: Duration,
     most: u64,
     readings: AtomicU64,
 }
 
 impl<'a, R> Skipping<'a, R> {
-    /// It was not read yet.
-    pub(super) fn new(rt: &'a R, skip: Duration, most: u64) -> Skipping<'a, R> {
+    /// It was not read yet. It stands still where these signals say what it shows.
+    pub(super) fn new(
+        rt: &'a R,
+        time: Option<&'a Signals>,
+        skip: Duration,
+        most: u64,
+    ) -> Skipping<'a, R> {
         let readings = AtomicU64::new(0);
         Skipping {
             rt,
+            time,
             skip,
             most,
             readings,
@@ -34,6 +42,9 @@ impl<R: Clock> Clock for Skipping<'_, R> {
         let reading = self.readings.fetch_add(1, Ordering::SeqCst);
         if reading >= self.most {
             return Err(io::Error::from(io::ErrorKind::Other));
+        }
+        if let Some(signals) = self.time {
+            return Ok(signals.time());
         }
         let times = u32::try_from(reading).unwrap_or(u32::MAX);
         let skipped = self.skip.saturating_mul(times);

@@ -19,12 +19,19 @@ pub(super) struct Stage<'a, R> {
     pub(super) skip: Duration,
     /// How often it can be read in such a wait.
     pub(super) readings: u64,
+    /// Whether it stands still then, but where it is let go on.
+    pub(super) stands: bool,
 }
 
 impl<'a, R> Stage<'a, R> {
     /// The clock of a wait that has a limit.
     pub(super) fn clock(&self) -> Skipping<'a, R> {
-        Skipping::new(self.rt, self.skip, self.readings)
+        let time = if self.stands {
+            Some(self.signals)
+        } else {
+            None
+        };
+        Skipping::new(self.rt, time, self.skip, self.readings)
     }
 }
 
@@ -43,6 +50,10 @@ impl<'a, R: Clock> Stage<'a, R> {
             }
             Move::HoldTurns(times) => {
                 self.signals.hold_turns(times);
+                Answer::Done
+            }
+            Move::Advance(millis) => {
+                self.signals.advance(millis);
                 Answer::Done
             }
             Move::AwaitHeld(times) => Answer::in_time(self.signals.await_held(self.rt, times)),

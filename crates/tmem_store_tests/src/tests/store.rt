@@ -8,7 +8,7 @@ ghost use Rattle.tmem_tree.specs.Plans.{FitsSteps, FitsVariables, FitsNames, Fit
 use super::fronts::Asked;
 use super::moves::{Answer, Move};
 use super::no_closures::always;
-use super::signals::Signals;
+use super::signals::{MOST_TURNS, Signals};
 use super::stage::Stage;
 use std::marker::PhantomData;
 use std::mem;
@@ -529,9 +529,31 @@ fn call_to_ask<
         Move::LogIs(want) => Answer::Holds(counts_of(front.log(stage.rt)) == want),
         Move::FaultOf => Answer::fault(front.fault(stage.rt)),
         Move::TriesAtMost(most) => Answer::Holds(front.tries(stage.rt) <= most),
-        Move::TriesAtLeast(least) => Answer::Holds(front.tries(stage.rt) >= least),
+        Move::AwaitTries(_) | Move::AwaitValue(_, _) => await_coming(front, stage, step),
         other => stage.answer(other),
     }
+}
+
+// Waits for what a move says is to come, for ten seconds at the most.
+fn await_coming<
+    D: Disk + Drop,
+    N: StoreNaming,
+    T: Invariants + Drop,
+    S: StoredSteps + Drop,
+    R: Clock + Wait,
+>(front: &Front<D, N, T, S>, stage: &Stage<R>, step: Move) -> Answer {
+    for _ in 0..MOST_TURNS {
+        let has_come = match step {
+            Move::AwaitTries(least) => front.tries(stage.rt) >= least,
+            Move::AwaitValue(var, value) => peek(front, stage, var) == Answer::Value(value),
+            _ => true,
+        };
+        if has_come {
+            return Answer::Done;
+        }
+        stage.answer(Move::Sleep(1));
+    }
+    Answer::Late
 }
 
 // The value of a variable, if a plan may read it.

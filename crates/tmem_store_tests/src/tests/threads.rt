@@ -1,8 +1,6 @@
 //! Threads that add over one front.
 use super::moves::Answer::{Done, Holds, Number, Value};
-use super::moves::Move::{
-    Acquire, Add, AddWithRoom, Count, Flush, Peek, ReleasePass, Sleep, TriesAtLeast,
-};
+use super::moves::Move::{Acquire, Add, AddWithRoom, AwaitTries, Count, Flush, Peek, ReleasePass};
 use super::scenes::Line::{After, All, Before, Crowd, Scene, Vars};
 use super::scenes::{Line, play};
 use std::test::Fail;
@@ -18,8 +16,8 @@ static SCENES: &[Line<'static>] = &[
     // so all 32 are the pool's
     Before(ReleasePass, Done),
     Crowd(Acquire, Done),
-    // meanwhile others come, and half of them wait
-    Crowd(Sleep(50), Done),
+    // each keeps its own until another thread waits
+    Crowd(AwaitTries(1), Done),
     Crowd(AddWithRoom(2), Number(2)),
     Crowd(ReleasePass, Done),
     Crowd(Acquire, Done),
@@ -29,7 +27,6 @@ static SCENES: &[Line<'static>] = &[
     Crowd(Add(1), Number(1)),
     Crowd(ReleasePass, Done),
     After(Acquire, Done),
-    After(TriesAtLeast(1), Holds(true)),
     After(Peek(0), Value(256)),
     After(Count, Number(256)),
     After(Flush, Number(64)),

@@ -76,6 +76,7 @@ fn play_staged<T: Invariants + Drop + Send, R: Abort + Clock + Threads + Wait + 
         lines: SCENE,
         skip: Duration::ZERO,
         readings: u64::MAX,
+        stands: false,
     };
     let wrong = play_on_stage(&stage, table)?;
     assert!(rt; wrong.is_none(), "{wrong:?}");

@@ -1,9 +1,9 @@
 //! Each thread that waits is woken, and rests until then.
 use super::moves::Answer::{Committed, Done, Holds, Number, Refused, Saw};
 use super::moves::Move::{
-    Acquire, Attempt, Await, Checkpoint, Commit, CommitAndFlush, CommitDurable, CommitWithin, Fill,
-    Flush, Look, NeedsAtMost, NewPass, NewPasses, PassOn, PassOnWithin, ReleasePass, RunFlusher,
-    Settle, Shut, Sleep, TriesAtLeast, TriesAtMost, TryCommit,
+    Acquire, Attempt, Await, AwaitTries, Checkpoint, Commit, CommitAndFlush, CommitDurable,
+    CommitWithin, Fill, Flush, Look, NeedsAtMost, NewPass, NewPasses, PassOn, PassOnWithin,
+    ReleasePass, RunFlusher, Settle, Shut, Sleep, TriesAtMost, TryCommit,
 };
 use super::moves::{Answer, Refusal, Task};
 use super::scenes::Line::{
@@ -102,12 +102,12 @@ static SCENES: &[Line<'static>] = &[
     After(Look, Number(1)),
     Scene("commits wake each flusher"),
     FirstThree(RunFlusher(1), Done),
-    Last(Sleep(50), Done),
+    Last(AwaitTries(3), Done),
     // a flusher that finds nothing left to flush sleeps once more
     Last(TryCommit(Task::Write(0, 1)), Committed(0)),
-    Last(Sleep(50), Done),
+    Last(Await(0), Done),
     Last(TryCommit(Task::Write(0, 1)), Committed(1)),
-    Last(Sleep(50), Done),
+    Last(Await(1), Done),
     Last(TryCommit(Task::Write(0, 1)), Committed(2)),
     Scene("a commit wakes each thread that waits for one"),
     Before(TryCommit(Task::Write(0, 1)), Committed(0)),
@@ -171,9 +171,8 @@ static SCENES: &[Line<'static>] = &[
     Last(TryCommit(Task::Write(2, 1)), Committed(20)),
     Scene("who awaits its own commit tries and sleeps"),
     First(CommitDurable(Task::Write(0, 1)), Committed(0)),
-    // before it tries it lets other threads run a hundred times, which takes a while on a busy machine
-    Last(Sleep(1000), Done),
-    Last(TriesAtLeast(1), Holds(true)),
+    Last(AwaitTries(1), Done),
+    Last(Sleep(100), Done),
     Last(TriesAtMost(3), Holds(true)),
     Last(Flush, Number(1)),
     Scene("a short transaction that retries tries and sleeps"),
@@ -186,20 +185,19 @@ static SCENES: &[Line<'static>] = &[
         CommitWithin(Task::WaitForEither(2, 70), LONG),
         Saw(51, [1, 0, 0, 0, 0, 0, 0, 0, 0, 0, 0, 0, 0, 0, 0, 0]),
     ),
-    Last(Sleep(500), Done),
+    Last(AwaitTries(2), Done),
     Last(Fill(50), Number(50)),
     Last(Sleep(50), Done),
-    Last(TriesAtLeast(2), Holds(true)),
     Last(TriesAtMost(6), Holds(true)),
     Last(TryCommit(Task::Write(70, 1)), Committed(50)),
-    Scene("threads that wait look once"),
+    Scene("threads that wait try once"),
     First(Await(0), CLOSED),
     Second(Commit(Task::NeedOne), CLOSED),
     Third(RunFlusher(1), Done),
-    Last(Sleep(1000), Done),
+    Last(AwaitTries(3), Done),
+    Last(Sleep(100), Done),
     // once each, and a few times more where a thread is woken for nothing
     Last(TriesAtMost(12), Holds(true)),
-    Last(TriesAtLeast(3), Holds(true)),
     Last(Shut, Done),
     Scene("a commit wakes whom it writes to"),
     // so the threads have the last four passes
@@ -208,13 +206,13 @@ static SCENES: &[Line<'static>] = &[
     Second(Commit(Task::NeedEither(69, 2)), Saw(2, ONE)),
     Third(Commit(Task::NeedEither(3, 71)), Saw(3, ONE)),
     Last(Sleep(100), Done),
-    // each has looked once, and sleeps
+    // each has tried once, and sleeps
     Last(TriesAtMost(3), Holds(true)),
     Last(TryCommit(Task::WriteBoth(4, 70, 1)), Committed(0)),
-    Last(Sleep(100), Done),
+    Last(Sleep(700), Done),
     Last(TriesAtMost(4), Holds(true)),
     Last(TryCommit(Task::WriteBoth(69, 8, 1)), Committed(1)),
-    Last(Sleep(100), Done),
+    Last(Sleep(700), Done),
     Last(TryCommit(Task::Write(71, 1)), Committed(2)),
     Scene("a commit by a step wakes whoever retries"),
     First(Commit(Task::NeedEither(0, 5)), Saw(1, ONE)),
