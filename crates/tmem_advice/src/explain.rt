@@ -76,19 +76,25 @@ fn explain_failure<E: Write>(
     failure: &ProgramFailure,
     err: &mut E,
 ) -> io::Result<()> {
-    match failure {
+    let text = match failure {
         ProgramFailure::Script(ScriptError::NoScript) if notes.text().is_empty() => {
-            tell_empty(asked, err)
+            return tell_empty(asked, err);
         }
-        ProgramFailure::Script(ScriptError::NoScript) => tell_flaw(rt.alloc(), notes.text(), err),
-        ProgramFailure::Script(ScriptError::Unreadable) => tell_unread(rt, asked, err),
-        ProgramFailure::Script(ScriptError::Memory(_)) => tell(err, FaultHelp(Fault::Memory)),
-        ProgramFailure::Refused(fault) => tell_fault(rt, asked, notes, *fault, err),
-        ProgramFailure::Output if changes_store(asked) => tell(err, NO_LINES),
-        ProgramFailure::Output => tell(err, NO_OUTPUT),
-        ProgramFailure::Clock => tell(err, NO_CLOCK),
-        ProgramFailure::Words(_) => Ok(()),
-    }
+        ProgramFailure::Script(ScriptError::NoScript) => {
+            return tell_flaw(rt.alloc(), notes.text(), err);
+        }
+        ProgramFailure::Script(ScriptError::Unreadable) => return tell_unread(rt, asked, err),
+        ProgramFailure::Script(ScriptError::Memory(_)) => return tell(
+            err,
+            FaultHelp(Fault::Memory),
+        ),
+        ProgramFailure::Refused(fault) => return tell_fault(rt, asked, notes, *fault, err),
+        ProgramFailure::Output if changes_store(asked) => NO_LINES,
+        ProgramFailure::Output => NO_OUTPUT,
+        ProgramFailure::Clock => NO_CLOCK,
+        ProgramFailure::Words(_) => return Ok(()),
+    };
+    tell(err, text)
 }
 
 // Tells that a script has no byte.
@@ -131,19 +137,20 @@ fn explain_store_failure<E: Write>(
     failure: &StoreFailure,
     err: &mut E,
 ) -> io::Result<()> {
-    match failure {
-        StoreFailure::Unread => tell_unread(rt, asked, err),
-        StoreFailure::NoShape(_) => tell_no_shape(rt, asked, err),
-        StoreFailure::NotMade(error) => explain_not_made(rt, asked, error, err),
-        StoreFailure::Refused(fault) => tell_fault_of_store(rt, asked, *fault, err),
+    let text = match failure {
+        StoreFailure::Unread => return tell_unread(rt, asked, err),
+        StoreFailure::NoShape(_) => return tell_no_shape(rt, asked, err),
+        StoreFailure::NotMade(error) => return explain_not_made(rt, asked, error, err),
+        StoreFailure::Refused(fault) => return tell_fault_of_store(rt, asked, *fault, err),
         StoreFailure::Ended(fault) => {
             tell_fault_of_store(rt, asked, *fault, err)?;
-            tell_doubt(*fault, err)
+            return tell_doubt(*fault, err);
         }
-        StoreFailure::Unregistered(_) => tell_of_bytes(rt, asked, NOT_REGISTERED, err),
-        StoreFailure::Input => tell(err, NO_INPUT),
-        StoreFailure::Output => tell(err, NO_ANSWERS),
-    }
+        StoreFailure::Unregistered(_) => return tell_of_bytes(rt, asked, NOT_REGISTERED, err),
+        StoreFailure::Input => NO_INPUT,
+        StoreFailure::Output => NO_ANSWERS,
+    };
+    tell(err, text)
 }
 
 fn explain_not_made<E: Write>(
@@ -152,16 +159,17 @@ fn explain_not_made<E: Write>(
     error: &InitError,
     err: &mut E,
 ) -> io::Result<()> {
-    match error {
-        InitError::Refused(fault) => tell_fault_of_store(rt, asked, *fault, err),
-        InitError::StoreIsThere if is_block_device(rt, asked) => tell_of(err, asked, A_DEVICE),
-        InitError::StoreIsThere => tell_there(rt, asked, false, err),
-        InitError::NotBlank => tell_there(rt, asked, true, err),
-        InitError::TextUnread(_) => tell_of(err, asked, TEXT_UNREAD),
+    let text = match error {
+        InitError::Refused(fault) => return tell_fault_of_store(rt, asked, *fault, err),
+        InitError::StoreIsThere if is_block_device(rt, asked) => A_DEVICE,
+        InitError::StoreIsThere => return tell_there(rt, asked, false, err),
+        InitError::NotBlank => return tell_there(rt, asked, true, err),
+        InitError::TextUnread(_) => TEXT_UNREAD,
         InitError::TextIsThere => {
-            tell_of(err, asked, format_args!("{OTHER_TEXT}; {BEFORE_A_COPY}"))
+            return tell_of(err, asked, format_args!("{OTHER_TEXT}; {BEFORE_A_COPY}"));
         }
-    }
+    };
+    tell_of(err, asked, text)
 }
 
 // Tells what is there where a store was to be made, in place or not.
@@ -311,16 +319,20 @@ fn tell_no_store<E: Write>(
     let Some((path, _)) = store_of(asked) else {
         return tell(err, NO_STORE);
     };
-    match cause_of(rt, path, Wanted::Read, 0) {
-        DeviceCause::Call(CallCause::Other) => tell(
-            err,
-            format_args!(
-                "{path}: {NO_STORE}; check the path; move this away, or name another path; {BEFORE_A_COPY}"
-            ),
-        ),
-        DeviceCause::Call(cause) => tell_because(err, path, UNSEEN, cause),
-        cause => tell_because(err, path, NO_STORE, cause),
-    }
+    let cause = cause_of(rt, path, Wanted::Read, 0);
+    let text = match cause {
+        DeviceCause::Call(CallCause::Other) => {
+            return tell(
+                err,
+                format_args!(
+                    "{path}: {NO_STORE}; check the path; move this away, or name another path; {BEFORE_A_COPY}"
+                ),
+            );
+        }
+        DeviceCause::Call(_) => UNSEEN,
+        _ => NO_STORE,
+    };
+    tell_because(err, path, text, cause)
 }
 
 // Tells the first flaw of a text that is no script, and how many more there are; or that it is a store.
@@ -446,34 +458,39 @@ fn tell_refused<E: Write>(
     fault: Fault,
     err: &mut E,
 ) -> io::Result<()> {
-    match (fault, store_of(asked)) {
-        (Fault::Device, Some((path, wanted))) => {
-            let wanted = if notes.is_held() {
-                Wanted::Held
-            } else {
-                wanted
-            };
-            tell_device(rt, asked, path, wanted, size_asked(rt, asked, notes), err)
+    match fault {
+        Fault::Device => {
+            if let Some((path, wanted)) = store_of(asked) {
+                let wanted = if notes.is_held() {
+                    Wanted::Held
+                } else {
+                    wanted
+                };
+                return tell_device(rt, asked, path, wanted, size_asked(rt, asked, notes), err);
+            }
         }
-        (Fault::Unknown, _) if matches!(asked, Asked::Serve(_)) => tell_of(err, asked, UNSURE),
-        (Fault::Unknown, _) if matches!(asked, Asked::Init(_)) => tell_of(
-            err,
-            asked,
-            PLACED_OR_NOT,
-        ),
-        (Fault::Damaged | Fault::NotFormatted, Some((path, _))) => match refusal_at(rt, path) {
-            Some(refusal) => tell_bytes(err, asked, path, refusal),
-            None => tell_of(err, asked, FaultHelp(fault)),
+        Fault::Damaged | Fault::NotFormatted => {
+            if let Some((path, _)) = store_of(asked) {
+                if let Some(refusal) = refusal_at(rt, path) {
+                    return tell_bytes(err, asked, path, refusal);
+                }
+            }
+        }
+        Fault::Unknown => match asked {
+            Asked::Serve(_) => return tell_of(err, asked, UNSURE),
+            Asked::Init(_) => return tell_of(err, asked, PLACED_OR_NOT),
+            _ => {}
         },
-        (Fault::Geometry, _) => tell_geometry(rt, asked, notes, err),
-        (Fault::Broken(name), _) if matches!(asked, Asked::Init(_)) => tell(
+        Fault::Geometry => return tell_geometry(rt, asked, notes, err),
+        Fault::Broken(name) if matches!(asked, Asked::Init(_)) => return tell(
             err,
             format_args!(
                 "the invariant {name} is always to hold, and false where every variable is 0; change its bounds, or leave out always"
             ),
         ),
-        (_, _) => tell_of(err, asked, FaultHelp(fault)),
+        _ => {}
     }
+    tell_of(err, asked, FaultHelp(fault))
 }
 
 // Tells why the file of the store could not be used; and where nothing is found there, why that of the shape beside it could not be made.

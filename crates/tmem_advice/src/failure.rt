@@ -1,6 +1,6 @@
 //! Why a store was not made, or not served to its end.
 use std::alloc::{AllocError, AllocFailed};
-use std::fmt;
+use std::fmt::{self, Display};
 use std::io::{self, ErrorKind};
 use thiserror::Error;
 use tmem_fault::{Fault, Name};
@@ -31,19 +31,18 @@ pub enum StoreFailure {
 impl fmt::Display for StoreFailure {
     fn fmt<W: fmt::Write>(&self, f: &mut fmt::Formatter<W>) -> fmt::Result {
         match self {
-            StoreFailure::Unread => write!(f, "cannot read shape"),
+            StoreFailure::Unread => f.write_str("cannot read shape"),
             StoreFailure::NoShape(error) => write!(f, "bad shape: {error}"),
-            StoreFailure::NotMade(error) => write!(f, "{error}"),
-            StoreFailure::Refused(fault) => write!(f, "{fault}"),
+            StoreFailure::NotMade(error) => error.fmt(f),
+            StoreFailure::Refused(fault) | StoreFailure::Ended(fault) => fault.fmt(f),
             StoreFailure::Unregistered(name) => {
                 write!(
                     f,
                     "{name} always holds by the shape, but is not registered in the store"
                 )
             }
-            StoreFailure::Ended(fault) => write!(f, "{fault}"),
-            StoreFailure::Output => write!(f, "output failed"),
-            StoreFailure::Input => write!(f, "input failed"),
+            StoreFailure::Output => f.write_str("output failed"),
+            StoreFailure::Input => f.write_str("input failed"),
         }
     }
 }

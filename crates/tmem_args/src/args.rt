@@ -5,7 +5,7 @@ ghost use Rattle.clap.specs.Kinds.{FailsBy};
 ghost use Rattle.clap.specs.Matches.{found_of};
 ghost use Rattle.clap.specs.Simple.{App, Shape, app_of, new_app, new_rule, subcommand_of, subcommand_rows_of, with_rule, with_subcommand as adding};
 ghost use Rattle.clap.specs.Walk.{Rule, Text, first_of, one_of, rows_of, rule_of};
-ghost use Rattle.tmem_args.specs.CommandLine.{IsAsked, IsNumberIfAny, IsNumberOf, IsTold, ReadsPlainly, IsFlagOf, bench_words, check_words, command_line, disk_words, explain_words, file_word, flag_word, init_words, number_word, option_words, program_alone, run_words, script_to_check, script_word, serve_words, shape_words, show_words, store_word, text_in, threads_words, why_not_done};
+ghost use Rattle.tmem_args.specs.CommandLine.{IsAsked, IsNumberIfAny, IsNumberOf, IsTold, ReadsPlainly, IsFlagOf, bench_words, check_words, command_line, disk_words, explain_words, flag_word, init_words, number_word, option_words, program_alone, run_words, script_word, serve_words, show_words, store_word, text_in, threads_words, why_not_done};
 
 use clap::{Arg, ArgAction, ArgMatches, Command, value_parser};
 use std::alloc::{AllocError, Global};
@@ -179,8 +179,8 @@ fn paths_of<'a>(run: &ArgMatches<'a>) -> Paths<'a>
     ensures disk { option_map (λ text. text.now) result.disk ≡ first_of (codes "disk") (rows_of (found_of run.now)) }
 {
     Paths {
-        script: run.get_str("script"),
-        disk: disk_of(run),
+        script: text_of(run, "script"),
+        disk: text_of(run, "disk"),
     }
 }
 
@@ -193,7 +193,7 @@ fn counting_of<'a>(threads: &ArgMatches<'a>) -> Counting<'a>
     Counting {
         workers: number_in(threads, "workers"),
         turns: number_in(threads, "turns"),
-        disk: disk_of(threads),
+        disk: text_of(threads, "disk"),
     }
 }
 
@@ -204,7 +204,7 @@ fn timing_of<'a>(bench: &ArgMatches<'a>) -> Timing<'a>
     ensures job { IsNumberIfAny (one_of (codes "job") (rows_of (found_of bench.now))) result.job }
 {
     Timing {
-        disk: disk_of(bench),
+        disk: text_of(bench, "disk"),
         millis: number_if_any(bench, "millis"),
         job: number_if_any(bench, "job"),
     }
@@ -259,13 +259,6 @@ fn text_of<'a>(matches: &ArgMatches<'a>, id: &str) -> Option<&'a str>
     ensures { option_map (λ text. text.now) result ≡ first_of id.now (rows_of (found_of matches.now)) }
 {
     matches.get_str(id)
-}
-
-// The path behind `--disk`.
-fn disk_of<'a>(matches: &ArgMatches<'a>) -> Option<&'a str>
-    ensures { option_map (λ text. text.now) result ≡ first_of (codes "disk") (rows_of (found_of matches.now)) }
-{
-    matches.get_str("disk")
 }
 
 // The number that an argument is given: the parser has seen that it is one.
@@ -450,7 +443,7 @@ fn init_command<'a>(alloc: Global) -> Result<Command<'a>, AllocError>
         "init",
         "Makes a store of a shape, and puts the shape beside it",
         store_arg(alloc),
-        file_arg(alloc),
+        required_arg(alloc, "file", "FILE", "The file with the shape"),
     );
     with_arg(with_arg(init, in_place), explain_arg(alloc))
 }
@@ -459,12 +452,13 @@ fn serve_command<'a>(alloc: Global) -> Result<Command<'a>, AllocError>
     ensures app { IfOk result (λ command. app_of command ≡ record { top = serve_words; subs = [] }) }
     ensures local { IfOk result (λ command. (fields_of command).has_globals ≡ false) }
 {
+    let help = "The file with its shape [default: STORE.json]";
     let serve = subcommand_with(
         alloc,
         "serve",
         "Answers the requests on standard input from a store",
         store_arg(alloc),
-        shape_arg(alloc),
+        option_arg(alloc, "shape", "FILE", help),
     );
     with_arg(serve, explain_arg(alloc))
 }
@@ -473,21 +467,15 @@ fn check_command<'a>(alloc: Global) -> Result<Command<'a>, AllocError>
     ensures app { IfOk result (λ command. app_of command ≡ record { top = check_words; subs = [] }) }
     ensures local { IfOk result (λ command. (fields_of command).has_globals ≡ false) }
 {
+    let script = required_arg(alloc, "script", "SCRIPT", "The file with the script");
+    let explain = flag_arg(alloc, "explain", "Changes nothing: all is said without it");
     subcommand_with(
         alloc,
         "check",
         "Says all that is wrong with a script, and touches no store",
-        checked_arg(alloc),
-        idle_explain_arg(alloc),
+        script,
+        explain,
     )
-}
-
-// The path of a script, which has to be given.
-fn checked_arg<'a>(alloc: Global) -> Arg<'a>
-    ensures rule { rule_of result ≡ script_to_check }
-    ensures local { result.global ≡ false }
-{
-    required_arg(alloc, "script", "SCRIPT", "The file with the script")
 }
 
 // `--explain`.
@@ -496,31 +484,6 @@ fn explain_arg<'a>(alloc: Global) -> Arg<'a>
     ensures local { result.global ≡ false }
 {
     flag_arg(alloc, "explain", "Say more of what fails, and what to do")
-}
-
-// The same where all is said without it.
-fn idle_explain_arg<'a>(alloc: Global) -> Arg<'a>
-    ensures rule { rule_of result ≡ explain_words }
-    ensures local { result.global ≡ false }
-{
-    flag_arg(alloc, "explain", "Changes nothing: all is said without it")
-}
-
-// The file of a shape, which has to be given.
-fn file_arg<'a>(alloc: Global) -> Arg<'a>
-    ensures rule { rule_of result ≡ file_word }
-    ensures local { result.global ≡ false }
-{
-    required_arg(alloc, "file", "FILE", "The file with the shape")
-}
-
-// `--shape` with a path.
-fn shape_arg<'a>(alloc: Global) -> Arg<'a>
-    ensures rule { rule_of result ≡ shape_words }
-    ensures local { result.global ≡ false }
-{
-    let help = "The file with its shape [default: STORE.json]";
-    option_arg(alloc, "shape", "FILE", help)
 }
 
 // The path of a store, which has to be given.

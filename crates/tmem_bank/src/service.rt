@@ -72,20 +72,10 @@ fn run_bank<
     R: Clock + Print + Threads + Wait + Sync,
 >(rt: &R, alloc: Global, front: &Front<D, N, T, S>) -> Result<(), Fault> {
     let mut clerk = front.pass(rt)?;
-    run_by(rt, alloc, front, &mut clerk)
-}
-
-fn run_by<
-    N: StoreNaming + Send + Sync,
-    D: Disk + Drop + Send,
-    T: Invariants + Drop + Send,
-    S: StoredSteps + Drop + Send + Sync,
-    R: Clock + Print + Threads + Wait + Sync,
->(rt: &R, alloc: Global, front: &Front<D, N, T, S>, clerk: &mut Pass<N>) -> Result<(), Fault> {
-    open_accounts(rt, alloc, front, clerk)?;
-    move_alone(rt, alloc, front, clerk)?;
+    open_accounts(rt, alloc, front, &mut clerk)?;
+    move_alone(rt, alloc, front, &mut clerk)?;
     serve(rt, alloc, front)?;
-    let _ = println!(rt; "durable {}", front.look(clerk));
+    say_number(rt, "durable", front.look(&mut clerk));
     Ok(())
 }
 
@@ -98,7 +88,7 @@ fn open_accounts<
     R: Print + Wait,
 >(rt: &R, alloc: Global, front: &Front<D, N, T, S>, pass: &mut Pass<N>) -> Result<(), Fault> {
     let found = front.look(pass);
-    let _ = println!(rt; "found {found}");
+    say_number(rt, "found", found);
     if found == 0 {
         let opening = front.plan(deposits(alloc)?)?;
         settle_and_say(rt, front, pass, &opening)?;
@@ -121,7 +111,7 @@ fn move_alone<
     settle_and_say(rt, front, pass, &overdraft)
 }
 
-// Settles a plan several times.
+// Settles a plan several times, and an attempt of it too late.
 fn settle_again<
     N: StoreNaming,
     D: Disk + Drop,
@@ -136,30 +126,13 @@ fn settle_again<
 {
     settle_and_say(rt, front, pass, plan)?;
     settle_and_say(rt, front, pass, plan)?;
-    settle_late(rt, front, pass, plan)?;
-    settle_and_say(rt, front, pass, plan)
-}
-
-// Settles an attempt too late.
-fn settle_late<
-    N: StoreNaming,
-    D: Disk + Drop,
-    T: Invariants + Drop,
-    S: StoredSteps + Drop,
-    R: Print + Wait,
->(rt: &R, front: &Front<D, N, T, S>, pass: &mut Pass<N>, plan: &Plan) -> Result<(), Fault>
-    requires steps { FitsSteps (S.arities front.now.steps) plan.now.tree }
-    requires variables { FitsVariables front.now.vars plan.now }
-    requires names { FitsNames N.program.names plan.now.tree }
-    requires shapes { FitsShapes N.program.tests plan.now }
-{
     let late = front.attempt(rt, plan)?;
-    let _ = println!(rt; "attempted");
+    let _ = rt.println("attempted");
     settle_and_say(rt, front, pass, plan)?;
     if let Err(fault) = front.settle(rt, pass, &late) {
-        let _ = println!(rt; "{fault}");
+        let _ = rt.println(fault);
     }
-    Ok(())
+    settle_and_say(rt, front, pass, plan)
 }
 
 // Lets many threads move money, and frees the log.
@@ -196,13 +169,22 @@ fn settle_and_say<
 
 // Prints how a transaction ended.
 fn say<R: Print>(rt: &R, settled: &Settled) {
-    let _ = match settled {
-        Settled::Committed { number, .. } => println!(rt; "committed {number}"),
-        Settled::Seen { at, .. } => println!(rt; "seen {at}"),
-        Settled::Retry => println!(rt; "retry"),
-        Settled::Aborted(code) => println!(rt; "aborted {code}"),
-        Settled::Refused(name) => println!(rt; "refused {name}"),
-    };
+    match settled {
+        Settled::Committed { number, .. } => say_number(rt, "committed", *number),
+        Settled::Seen { at, .. } => say_number(rt, "seen", *at),
+        Settled::Aborted(code) => say_number(rt, "aborted", u64::from(*code)),
+        Settled::Retry => {
+            let _ = rt.println("retry");
+        }
+        Settled::Refused(name) => {
+            let _ = println!(rt; "refused {name}");
+        }
+    }
+}
+
+// Prints a word, and a number behind it.
+fn say_number<R: Print>(rt: &R, word: &str, number: u64) {
+    let _ = println!(rt; "{word} {number}");
 }
 
 // Prints what is in the accounts.

@@ -4,7 +4,6 @@ use std::alloc::{AllocError, AllocFailed};
 use std::fmt;
 use std::io::{self, ErrorKind};
 use tmem_fault::Fault;
-use tmem_forms::FormError;
 
 /// Why a row was not served, or calls were not all made. Its text is what the user is told.
 #[derive(Clone, Copy)]
@@ -35,7 +34,7 @@ impl fmt::Display for CallFailure {
         let text = match self {
             CallFailure::Words => "say serve, lines or refusals",
             CallFailure::NoRow => "bad row",
-            CallFailure::Refused(fault) => return write!(f, "{fault}"),
+            CallFailure::Refused(fault) => return fmt::Display::fmt(fault, f),
             CallFailure::Io => "input or output failed",
         };
         f.write_str(text)
@@ -57,15 +56,6 @@ impl From<AllocError> for CallFailure {
 impl<T: Drop> From<AllocFailed<T>> for CallFailure {
     fn from(_: AllocFailed<T>) -> CallFailure {
         CallFailure::Refused(Fault::Memory)
-    }
-}
-
-impl From<FormError> for CallFailure {
-    fn from(error: FormError) -> CallFailure {
-        match error {
-            FormError::Memory(_) => CallFailure::Refused(Fault::Memory),
-            FormError::NoForm => CallFailure::NoRow,
-        }
     }
 }
 

@@ -54,15 +54,16 @@ fn print_flushes<W: Write>(alloc: Global, out: &mut W) -> io::Result<()> {
 }
 
 // How many bytes four writes take of an output that takes one byte, is interrupted, and begins again.
-fn print_writes<W: Write>(alloc: Global, out: &mut W) -> Result<(), CallFailure> {
+fn print_writes<W: Write>(alloc: Global, out: &mut W) -> io::Result<()> {
     let turns = vec![in alloc; Ok(1), Err(ErrorKind::Interrupted)]?;
     let mut output = Output::new(alloc, turns, None);
     out.write_all(b"taken:")?;
     for _ in 0..4 {
-        match output.write(b"ab") {
-            Ok(count) => write!(out, " {count}")?,
-            Err(_) => out.write_all(b" none")?,
-        }
+        let printed = match output.write(b"ab") {
+            Ok(count) => write!(out, " {count}"),
+            Err(_) => out.write_all(b" none"),
+        };
+        printed?;
     }
-    Ok(out.write_all(b"\n")?)
+    out.write_all(b"\n")
 }

@@ -152,7 +152,7 @@ impl fmt::Display for DeviceCause {
                 "the device has 0 bytes; look whether anything is attached to it, or what should be to another one (lsblk, losetup -l)",
             DeviceCause::SecondName =>
                 "it has a second name, as a new file NAME (readlink -f tells it) has NAME.new0 until its folder is synced, and that sync failed; if this user may not read the folder, change that, or let one who may do it (sync FOLDER), and then remove NAME.new0, never NAME, and only if ls -i shows the same number for both (find FOLDER -samefile NAME tells other names); if it fails otherwise, look into the system's log (dmesg)",
-            DeviceCause::Call(cause) => return write!(f, "{cause}"),
+            DeviceCause::Call(cause) => return cause.fmt(f),
         };
         f.write_str(text)
     }
@@ -236,14 +236,20 @@ fn cause_of_missing<R: Files<File = File> + AllocGlobal>(
         Some(folder) if !folder.as_os_str().is_empty() => fs::metadata(rt, folder),
         _ => fs::metadata(rt, "."),
     };
-    match (folder, wanted) {
-        (Err(_), _) => DeviceCause::MissingFolder,
-        (Ok(_), Wanted::Made | Wanted::FoundOrMade) if ends_in_slash(path) => DeviceCause::Slash,
-        (Ok(_), Wanted::Made | Wanted::FoundOrMade) if is_folder_closed(rt, path) => {
-            DeviceCause::ClosedFolder
+    if folder.is_err() {
+        return DeviceCause::MissingFolder;
+    }
+    match wanted {
+        Wanted::Made | Wanted::FoundOrMade => {
+            if ends_in_slash(path) {
+                DeviceCause::Slash
+            } else if is_folder_closed(rt, path) {
+                DeviceCause::ClosedFolder
+            } else {
+                cause_of_making(rt, path, size)
+            }
         }
-        (Ok(_), Wanted::Made | Wanted::FoundOrMade) => cause_of_making(rt, path, size),
-        (Ok(_), _) => DeviceCause::Missing,
+        _ => DeviceCause::Missing,
     }
 }
 
@@ -292,10 +298,9 @@ fn cause_of_trying<R: Files<File = File> + AllocGlobal>(
     ensures or_found { IfSome result (λ cause. may_be_told Wanted.FoundOrMade cause ≡ true) }
 {
     let next = number + 1;
-    let (Ok(name), Ok(link)) = (
-        format!(in rt.alloc(); "{path}.try{number}"),
-        format!(in rt.alloc(); "{path}.try{next}"),
-    ) else {
+    let name = format!(in rt.alloc(); "{path}.try{number}");
+    let link = format!(in rt.alloc(); "{path}.try{next}");
+    let (Ok(name), Ok(link)) = (&name, &link) else {
         return Some(DeviceCause::Call(CallCause::Other));
     };
     cause_of_names(rt, name.as_str(), link.as_str(), size)

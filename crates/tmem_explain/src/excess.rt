@@ -1,9 +1,8 @@
 //! What of a transaction is past a limit.
-ghost use Rattle.std.specs.Prelude.{◌≡◌, IfSome, Some, true};
-ghost use Rattle.std.specs.Fmt.{DisplaysOnOk};
+ghost use Rattle.std.specs.Prelude.{◌≡◌, IfSome, true};
 ghost use Rattle.std.specs.List.{Contains};
 ghost use Rattle.tmem_tree.specs.Limits.{is_no_register};
-ghost use Rattle.tmem_explain.specs.Excesses.{arguments_in, excess_text, registers_in, step_in, variable_in};
+ghost use Rattle.tmem_explain.specs.Excesses.{arguments_in, registers_in, step_in, variable_in};
 
 use std::fmt;
 use tmem_tree::{REGISTERS, Tx};
@@ -39,7 +38,10 @@ impl fmt::Display for Excess {
             Excess::Checks(n) => ("it has ", n, " checks, and may have 8"),
             Excess::Retires(n) => ("it retires ", n, " names, and may retire 8"),
             Excess::Register(reg) => ("there is no register ", reg as u64, ": they are 0 to 15"),
-            Excess::Variable { var, vars } => return write_variable(f, var, vars),
+            Excess::Variable { var, vars } => return write!(
+                f,
+                "there is no variable {var}: the store has {vars}, from 0 on"
+            ),
             Excess::Step(index) => ("there is no step ", index as u64, ": they are 0 to 2"),
             Excess::Arguments(n) => ("this step takes 2 registers, and is given ", n, ""),
             Excess::Name { vars } => (
@@ -50,16 +52,6 @@ impl fmt::Display for Excess {
         };
         write!(f, "{before}{n}{behind}")
     }
-}
-
-// What is told of a variable that a store of so many does not have.
-fn write_variable<W: fmt::Write>(f: &mut fmt::Formatter<W>, var: u16, vars: u16) -> fmt::Result
-    ensures { DisplaysOnOk W.write_str_gives f.old result (Some (excess_text (Excess.Variable var vars))) f.new }
-{
-    write!(
-        f,
-        "there is no variable {var}: the store has {vars}, from 0 on"
-    )
 }
 
 /// The variable that a node reads or writes.

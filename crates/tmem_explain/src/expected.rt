@@ -4,7 +4,7 @@ ghost use Rattle.std.specs.Fmt.{DisplaysOnOk};
 ghost use Rattle.tmem_explain.specs.Told.{transaction_text};
 
 use crate::excess::Excess;
-use std::fmt;
+use std::fmt::{self, Display};
 use tmem_requests::RequestFlaw;
 
 /// What was expected at a place. Its text is what the user is told.
@@ -62,7 +62,7 @@ impl fmt::Display for Expected {
             Expected::Begin => "this is not an array of an attempt and a transaction",
             Expected::Attempt => "this is not a whole number from 0 to 15, as an attempt is",
             Expected::Transaction(why) => return write_transaction(f, *why),
-            Expected::Plan { excess, .. } => return write!(f, "{excess}"),
+            Expected::Plan { excess, .. } => return excess.fmt(f),
             Expected::Script => "this is not a script",
         };
         f.write_str(text)
@@ -80,6 +80,6 @@ fn write_transaction<W: fmt::Write>(f: &mut fmt::Formatter<W>, why: RequestFlaw)
         RequestFlaw::NotStep => f.write_str(
             "this is none of the steps \"add\", \"sub\" and \"need\"",
         ),
-        _ => write!(f, "{why}"),
+        _ => why.fmt(f),
     }
 }

@@ -4,7 +4,7 @@ ghost use Rattle.std.specs.Fmt.{DisplaysOnOk};
 ghost use Rattle.tmem_requests.specs.Refusals.{step_text};
 
 use crate::expected::Expected;
-use std::fmt;
+use std::fmt::{self, Display};
 use tmem_requests::PointerStep;
 
 /// What is wrong with a script.
@@ -45,7 +45,7 @@ fn write_steps<W: fmt::Write>(f: &mut fmt::Formatter<W>, steps: &[PointerStep]) 
     ensures { DisplaysOnOk W.write_str_gives f.old result (Some (flat_map step_text steps.now)) f.new }
 {
     for step in steps {
-        write!(f, "{step}")?;
+        step.fmt(f)?;
     }
     Ok(())
 }
@@ -73,7 +73,7 @@ impl fmt::Display for Flaw {
 
     fn fmt<W: fmt::Write>(&self, f: &mut fmt::Formatter<W>) -> fmt::Result {
         if self.is_whole() {
-            write!(f, "{}", self.expected)
+            self.expected.fmt(f)
         } else {
             write!(f, "{}: {}", self.at, self.expected)
         }

@@ -1,11 +1,10 @@
 //! What a fault means, and what to do.
 ghost use Rattle.std.specs.Prelude.{◌++◌, Some, codes};
 ghost use Rattle.std.specs.Fmt.{DisplaysOnOk};
-ghost use Rattle.tmem_explain.specs.Helps.{fault_help};
 
 use std::fmt;
 use tmem_answers::words_of;
-use tmem_fault::{Cause, Fault, Name};
+use tmem_fault::{Fault, Name};
 
 /// What went wrong, and what to do, in a line for a fault.
 #[derive(Clone, Copy)]
@@ -44,7 +43,11 @@ impl fmt::Display for FaultHelp {
                 name,
                 " is registered in the store, and as this program or shape means it, it is false of the store's values; check the paths of the store and of the shape or script; if they are the ones, compare what it means here with what it meant in the program or shape that used the store last, as that was then; if that differs, open the store with that one; only if not, something changed the file: move it away, and put a copy in its place (what the copy lacks is lost)",
             ),
-            Fault::BadPlan(cause) => return write_cause(f, *cause),
+            Fault::BadPlan(cause) => return write!(
+                f,
+                "{}; change the transaction",
+                words_of(*cause)
+            ),
             Fault::BadName =>
                 "a name is not 1 to 16 letters from a to z, or stands twice, or there are more than 64; change the program",
             Fault::BadFootprint =>
@@ -65,13 +68,6 @@ fn write_named<W: fmt::Write>(f: &mut fmt::Formatter<W>, name: &Name, rest: &str
     ensures { DisplaysOnOk W.write_str_gives f.old result (Some (codes "the invariant " ++ (name.now ++ rest.now))) f.new }
 {
     write!(f, "the invariant {name}{rest}")
-}
-
-// What is told of a transaction that breaks the limit of this cause.
-fn write_cause<W: fmt::Write>(f: &mut fmt::Formatter<W>, cause: Cause) -> fmt::Result
-    ensures { DisplaysOnOk W.write_str_gives f.old result (Some (fault_help (Fault.BadPlan cause))) f.new }
-{
-    write!(f, "{}; change the transaction", words_of(cause))
 }
 
 /// What to do where an opening refuses the bytes of a store by a fault, in a line for it.
@@ -97,20 +93,18 @@ impl fmt::Display for RefusalHelp {
             is_shown,
         } = *self;
         match fault {
-            Fault::Geometry if is_of_no_store => write!(
-                f,
-                "these bytes are too few for a store; check the path; only if a store was there, move this away, and put a copy in its place (what the copy lacks is lost)"
+            Fault::Geometry if is_of_no_store => f.write_str(
+                "these bytes are too few for a store; check the path; only if a store was there, move this away, and put a copy in its place (what the copy lacks is lost)",
             ),
-            Fault::Geometry => write!(
-                f,
-                "the file was cut off, or is no store; check the path, or move it away and put a copy in its place (what the copy lacks is lost)"
+            Fault::Geometry => f.write_str(
+                "the file was cut off, or is no store; check the path, or move it away and put a copy in its place (what the copy lacks is lost)",
             ),
             Fault::Damaged if is_shown => write!(
                 f,
                 "if a program has it open, look again; else {}",
                 FaultHelp(Fault::Damaged)
             ),
-            _ => write!(f, "{}", FaultHelp(fault)),
+            _ => FaultHelp(fault).fmt(f),
         }
     }
 }

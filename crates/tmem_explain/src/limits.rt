@@ -51,7 +51,11 @@ fn note_vars(alloc: Global, script: &Script, flaws: &mut Vec<Flaw>) -> Result<()
     if has_vars(script) {
         return Ok(());
     }
-    let flaw = vars_flaw(alloc, script)?;
+    let amiss = Amiss::here(alloc, Expected::Vars);
+    let flaw = amiss.behind(PointerStep::Key("vars")).into_flaw();
+    let Expected::Vars = flaw.expected else {
+        return Err(AllocError);
+    };
     flaws.push(flaw)?;
     Ok(())
 }
@@ -63,28 +67,6 @@ fn has_vars(script: &Script) -> bool
     1 <= script.vars && script.vars <= MOST_VARS
 }
 
-// The flaw of such a number.
-fn vars_flaw(alloc: Global, script: &Script) -> Result<Flaw, AllocError>
-    requires { ¬ MayHaveVars script.now.vars }
-    ensures told { IfOk result (λ flaw. (d : Data) → IsScript script.now.vars script.now.slots script.now.entries.items d → IsFlawOf d flaw) }
-    ensures number { IfOk result TellsVars }
-{
-    let flaw = vars_or_memory(alloc, script);
-    match flaw.expected {
-        Expected::Vars => Ok(flaw),
-        _ => Err(AllocError),
-    }
-}
-
-// The same, or that memory did not suffice.
-fn vars_or_memory(alloc: Global, script: &Script) -> Flaw
-    requires { ¬ MayHaveVars script.now.vars }
-    ensures { (d : Data) → IsScript script.now.vars script.now.slots script.now.entries.items d → IsFlawOf d result }
-{
-    let amiss = Amiss::here(alloc, Expected::Vars);
-    amiss.behind(PointerStep::Key("vars")).into_flaw()
-}
-
 // Notes the number of log slots of a script, if no store has so many.
 fn note_slots(alloc: Global, script: &Script, flaws: &mut Vec<Flaw>) -> Result<(), AllocError>
     ensures only { All (IsLimitFlaw script.now.vars script.now.slots script.now.entries.items) flaws.old.items → OnOk result (All (IsLimitFlaw script.now.vars script.now.slots script.now.entries.items) flaws.new.items) }
@@ -94,7 +76,11 @@ fn note_slots(alloc: Global, script: &Script, flaws: &mut Vec<Flaw>) -> Result<(
     if has_slots(script) {
         return Ok(());
     }
-    let flaw = slots_flaw(alloc, script)?;
+    let amiss = Amiss::here(alloc, Expected::Slots);
+    let flaw = amiss.behind(PointerStep::Key("slots")).into_flaw();
+    let Expected::Slots = flaw.expected else {
+        return Err(AllocError);
+    };
     flaws.push(flaw)?;
     Ok(())
 }
@@ -104,28 +90,6 @@ fn has_slots(script: &Script) -> bool
     ensures { IsTrue result ↔ MayHaveSlots script.now.slots }
 {
     LEAST_SLOTS <= script.slots && script.slots <= MOST_SLOTS
-}
-
-// The flaw of such a number.
-fn slots_flaw(alloc: Global, script: &Script) -> Result<Flaw, AllocError>
-    requires { ¬ MayHaveSlots script.now.slots }
-    ensures told { IfOk result (λ flaw. (d : Data) → IsScript script.now.vars script.now.slots script.now.entries.items d → IsFlawOf d flaw) }
-    ensures number { IfOk result TellsSlots }
-{
-    let flaw = slots_or_memory(alloc, script);
-    match flaw.expected {
-        Expected::Slots => Ok(flaw),
-        _ => Err(AllocError),
-    }
-}
-
-// The same, or that memory did not suffice.
-fn slots_or_memory(alloc: Global, script: &Script) -> Flaw
-    requires { ¬ MayHaveSlots script.now.slots }
-    ensures { (d : Data) → IsScript script.now.vars script.now.slots script.now.entries.items d → IsFlawOf d result }
-{
-    let amiss = Amiss::here(alloc, Expected::Slots);
-    amiss.behind(PointerStep::Key("slots")).into_flaw()
 }
 
 // Notes each limit that a transaction breaks.

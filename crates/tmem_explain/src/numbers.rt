@@ -1,6 +1,5 @@
 //! Which numbers a store has, beside those that were asked for.
 ghost use Rattle.std.specs.Prelude.{Some};
-ghost use Rattle.std.specs.Fmt.{DisplaysOnOk};
 ghost use Rattle.tmem_explain.specs.Helps.{numbers_help};
 
 use std::fmt;
@@ -101,13 +100,19 @@ impl fmt::Display for NumbersHelp {
                 slots,
                 had_vars,
                 had_slots,
-            } => write_other(f, *vars, *slots, *had_vars, *had_slots),
+            } => write!(
+                f,
+                "the store has {had_vars} variables and {had_slots} log slots, and {vars} and {slots} were asked for; check both paths; open the store with the shape or script that it was made with (to change the numbers in another opens it under other invariants); only if this very file had the others before, something changed it: move it away, and put a copy in its place (what the copy lacks is lost)"
+            ),
             NumbersHelp::Short {
                 vars,
                 slots,
                 has,
                 wants,
-            } => write_short(f, *vars, *slots, *has, *wants),
+            } => write!(
+                f,
+                "it has {has} bytes, and a store of {vars} variables and {slots} log slots has {wants}; check the path, or move it away and put a copy in its place (what the copy lacks is lost)"
+            ),
             NumbersHelp::NoRoom { has, wants } => write!(
                 f,
                 "it has {has} bytes, and the store takes {wants}; if a store was there, restore a copy; else make it at least so long, or name another"
@@ -118,36 +123,4 @@ impl fmt::Display for NumbersHelp {
             ),
         }
     }
-}
-
-// That a store has other numbers than those that were asked for.
-fn write_other<W: fmt::Write>(
-    f: &mut fmt::Formatter<W>,
-    vars: u16,
-    slots: u16,
-    had_vars: u16,
-    had_slots: u16,
-) -> fmt::Result
-    ensures { DisplaysOnOk W.write_str_gives f.old result (Some (numbers_help (NumbersHelp.Other vars slots had_vars had_slots))) f.new }
-{
-    write!(
-        f,
-        "the store has {had_vars} variables and {had_slots} log slots, and {vars} and {slots} were asked for; check both paths; open the store with the shape or script that it was made with (to change the numbers in another opens it under other invariants); only if this very file had the others before, something changed it: move it away, and put a copy in its place (what the copy lacks is lost)"
-    )
-}
-
-// That a file has fewer bytes than a store of these numbers.
-fn write_short<W: fmt::Write>(
-    f: &mut fmt::Formatter<W>,
-    vars: u16,
-    slots: u16,
-    has: u64,
-    wants: u64,
-) -> fmt::Result
-    ensures { DisplaysOnOk W.write_str_gives f.old result (Some (numbers_help (NumbersHelp.Short vars slots has wants))) f.new }
-{
-    write!(
-        f,
-        "it has {has} bytes, and a store of {vars} variables and {slots} log slots has {wants}; check the path, or move it away and put a copy in its place (what the copy lacks is lost)"
-    )
 }

@@ -143,5 +143,5 @@ fn have_each(names: &[Name], some: &[Name]) -> bool
 fn is_among(names: &[Name], name: &Name) -> bool
     ensures { result ≡ has_name names.now name.now }
 {
-    names.iter().any(|one| one.as_bytes() == name.as_bytes())
+    names.contains(name)
 }

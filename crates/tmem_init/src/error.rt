@@ -21,13 +21,16 @@ pub enum InitError {
 
 impl fmt::Display for InitError {
     fn fmt<W: fmt::Write>(&self, f: &mut fmt::Formatter<W>) -> fmt::Result {
-        match self {
-            InitError::Refused(fault) => write!(f, "{fault}"),
-            InitError::StoreIsThere => write!(f, "something is there already"),
-            InitError::TextIsThere => write!(f, "another shape is there already"),
-            InitError::TextUnread(why) => write!(f, "cannot read the shape that is there: {why}"),
-            InitError::NotBlank => write!(f, "the device is not blank"),
-        }
+        let text = match self {
+            InitError::Refused(fault) => return write!(f, "{fault}"),
+            InitError::StoreIsThere => "something is there already",
+            InitError::TextIsThere => "another shape is there already",
+            InitError::TextUnread(why) => {
+                return write!(f, "cannot read the shape that is there: {why}");
+            }
+            InitError::NotBlank => "the device is not blank",
+        };
+        f.write_str(text)
     }
 }
 

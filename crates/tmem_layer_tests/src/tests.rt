@@ -12,6 +12,7 @@ mod journals;
 mod limits;
 mod otherwise;
 mod pages;
+mod refusals;
 mod rows;
 mod spine;
 mod states;

@@ -6,7 +6,7 @@ use crate::failure::PlayFailure;
 use crate::printing::print_fault;
 use crate::row::{Numbers, Touch};
 use std::alloc::Global;
-use std::io::{self, Write};
+use std::io::Write;
 use std::mem;
 use tmem_disk::{DeviceFault, Disk, SimDisk};
 use tmem_fault::Fault;
@@ -16,18 +16,24 @@ use tmem_journal::{Journal, format};
 pub(crate) fn touch<W: Write>(
     alloc: Global,
     disk: &mut SimDisk,
-    act: Touch,
+    act: &Touch,
     out: &mut W,
 ) -> Result<(), PlayFailure> {
     match act {
-        Touch::Format(numbers) => Ok(format_anew(disk, numbers, out)?),
-        Touch::Recover(numbers) => recover(alloc, disk, numbers, out),
-        Touch::Restart => Ok(restart(disk, out)?),
-        Touch::Bytes(at, count) => Ok(print_bytes(&read(alloc, disk, at, count)?, out)?),
-        Touch::Write(at, bytes) => overwrite(disk, at, &bytes, out),
+        Touch::Format(numbers) => {
+            let done = format(disk, numbers.vars, numbers.slots);
+            print_done(done, "formatted\n", out)
+        }
+        Touch::Recover(numbers) => recover(alloc, disk, *numbers, out),
+        Touch::Restart => print_done(Ok(()), restart(disk), out),
+        Touch::Bytes(at, count) => {
+            let bytes = read(alloc, disk, *at, *count)?;
+            print_bytes(&bytes, out)
+        }
+        Touch::Write(at, bytes) => overwrite(disk, *at, bytes, out),
         Touch::Copy(from, count, to) => {
-            let bytes = read(alloc, disk, from, count)?;
-            overwrite(disk, to, &bytes, out)
+            let bytes = read(alloc, disk, *from, *count)?;
+            overwrite(disk, *to, &bytes, out)
         }
         armed => {
             arm(disk, armed);
@@ -36,23 +42,28 @@ pub(crate) fn touch<W: Write>(
     }
 }
 
-// Formats a device, and says so, or prints the fault.
-fn format_anew<W: Write>(disk: &mut SimDisk, numbers: Numbers, out: &mut W) -> io::Result<()> {
-    match format(disk, numbers.vars, numbers.slots) {
-        Ok(()) => out.write_all(b"formatted\n"),
+// Prints the line of what was done, or the fault.
+fn print_done<W: Write>(
+    done: Result<(), Fault>,
+    line: &str,
+    out: &mut W,
+) -> Result<(), PlayFailure> {
+    let printed = match done {
+        Ok(()) => out.write_all(line.as_bytes()),
         Err(fault) => print_fault(fault, out),
-    }
+    };
+    Ok(printed?)
 }
 
 // Arms a crash or a failure.
-fn arm(disk: &mut SimDisk, act: Touch) {
+fn arm(disk: &mut SimDisk, act: &Touch) {
     match act {
-        Touch::Fail(DeviceFault::Read, k) => disk.fail_read(k),
-        Touch::Fail(DeviceFault::Write, k) => disk.fail_write(k),
-        Touch::Fail(DeviceFault::Sync, k) => disk.fail_sync(k),
-        Touch::CrashAtWrite(k, fill) => disk.stop_at_write(k, fill),
-        Touch::CrashAtPlace(at, fill) => disk.stop_at_place(at, fill),
-        Touch::CrashNow(fill) => disk.stop_now(fill),
+        Touch::Fail(DeviceFault::Read, k) => disk.fail_read(*k),
+        Touch::Fail(DeviceFault::Write, k) => disk.fail_write(*k),
+        Touch::Fail(DeviceFault::Sync, k) => disk.fail_sync(*k),
+        Touch::CrashAtWrite(k, fill) => disk.stop_at_write(*k, *fill),
+        Touch::CrashAtPlace(at, fill) => disk.stop_at_place(*at, *fill),
+        Touch::CrashNow(fill) => disk.stop_now(*fill),
         _ => {}
     }
 }
@@ -64,11 +75,11 @@ fn recover<W: Write>(
     numbers: Numbers,
     out: &mut W,
 ) -> Result<(), PlayFailure> {
-    match recovered(alloc, disk, numbers) {
-        Ok(count) => writeln!(out, "recovered {count}")?,
-        Err(fault) => print_fault(fault, out)?,
-    }
-    Ok(())
+    let printed = match recovered(alloc, disk, numbers) {
+        Ok(count) => writeln!(out, "recovered {count}"),
+        Err(fault) => print_fault(fault, out),
+    };
+    Ok(printed?)
 }
 
 // How many transactions a journal finds. Until the device is handed back, one that holds nothing stands in its place.
@@ -87,15 +98,14 @@ fn recovered(alloc: Global, disk: &mut SimDisk, numbers: Numbers) -> Result<u64,
     }
 }
 
-// Starts a device again, and says whether it had crashed.
-fn restart<W: Write>(disk: &mut SimDisk, out: &mut W) -> io::Result<()> {
-    let line: &[u8] = if disk.is_crashed() {
+// Starts a device again. The line says whether it had crashed.
+fn restart(disk: &mut SimDisk) -> &'static str {
+    if disk.is_crashed() {
         disk.restart();
-        b"restarted\n"
+        "restarted\n"
     } else {
-        b"not crashed\n"
-    };
-    out.write_all(line)
+        "not crashed\n"
+    }
 }
 
 // Writes bytes, and syncs. The row is bad where the device has no room for them.
@@ -108,10 +118,12 @@ fn overwrite<W: Write>(
     if !has_range(disk, at, bytes.len() as u64) {
         return Err(PlayFailure::NoRow);
     }
-    if disk.write_at(at, bytes).is_err() || disk.sync().is_err() {
-        return Ok(print_fault(Fault::Device, out)?);
-    }
-    Ok(out.write_all(b"written\n")?)
+    let done = if disk.write_at(at, bytes).is_err() || disk.sync().is_err() {
+        Err(Fault::Device)
+    } else {
+        Ok(())
+    };
+    print_done(done, "written\n", out)
 }
 
 // Whether a device has so many bytes from an offset on.
@@ -138,10 +150,10 @@ fn read(alloc: Global, disk: &mut SimDisk, at: u64, count: u64) -> Result<Vec<u8
 }
 
 // Prints bytes in hexadecimal.
-fn print_bytes<W: Write>(bytes: &[u8], out: &mut W) -> io::Result<()> {
+fn print_bytes<W: Write>(bytes: &[u8], out: &mut W) -> Result<(), PlayFailure> {
     out.write_all(b"bytes")?;
     for byte in bytes {
         write!(out, " {byte:02x}")?;
     }
-    out.write_all(b"\n")
+    Ok(out.write_all(b"\n")?)
 }

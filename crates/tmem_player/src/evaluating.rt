@@ -10,7 +10,7 @@ use crate::calls::CallCounts;
 use crate::failure::PlayFailure;
 use crate::printing::print_fault;
 use std::alloc::Global;
-use std::io::Write;
+use std::io::{self, Write};
 use tmem_builtins::{names, nonneg, ordered, sum};
 use tmem_fault::Fault;
 use tmem_tentative::{Attempt, Cursor, Outcome, Probe, Reads, evaluate};
@@ -84,24 +84,24 @@ fn evaluate_plan<S: StoredSteps, W: Write>(
     let plain = by_evaluate(alloc, plan, steps, values, calls, out)?;
     let by_plain = calls.take_steps();
     let other = by_cursor(alloc, plan, steps, values, out)?;
-    print_trials(&plain, &other, (by_plain, calls.take_steps()), out)
+    Ok(print_trials(&plain, &other, by_plain, calls.take_steps(), out)?)
 }
 
 // Prints the attempt that both ways come to, and how often each called a stored step; or that they differ.
 fn print_trials<W: Write>(
     plain: &Trial,
     other: &Trial,
-    calls: (u64, u64),
+    by_plain: u64,
+    by_other: u64,
     out: &mut W,
-) -> Result<(), PlayFailure> {
+) -> io::Result<()> {
     match (plain, other) {
         (Some(attempt), Some(other)) if are_alike(attempt, other) => {
             print_attempt(attempt, out)?;
-            writeln!(out, " calls={},{}", calls.0, calls.1)?;
+            writeln!(out, " calls={by_plain},{by_other}")
         }
-        _ => out.write_all(b"differ\n")?,
+        _ => out.write_all(b"differ\n"),
     }
-    Ok(())
 }
 
 // The value of a variable.
@@ -128,15 +128,14 @@ fn by_evaluate<S: StoredSteps, W: Write>(
     let mut answers = [false; MAX_CHECKS];
     let mut answered = 0;
     for _ in 0..=MAX_TURNS {
-        let turn = evaluate_once(
-            alloc,
-            plan,
-            steps,
+        let given = &answers[..answered];
+        let outcome = evaluated(alloc, plan, steps, &reads, given, calls, out)?;
+        let turn = add_needed(
+            outcome,
             values,
             &mut reads,
             &mut answers,
             &mut answered,
-            calls,
             out,
         )?;
         if let Turn::Stop(trial) = turn {
@@ -153,27 +152,6 @@ enum Turn {
     GoOn,
     // This is what it comes to.
     Stop(Trial),
-}
-
-// Evaluates a plan from the start, and adds the value or the answer that it needs.
-fn evaluate_once<S: StoredSteps, W: Write>(
-    alloc: Global,
-    plan: &Plan,
-    steps: &S,
-    values: &[i64],
-    reads: &mut Reads,
-    answers: &mut [bool; MAX_CHECKS],
-    answered: &mut usize,
-    calls: &CallCounts,
-    out: &mut W,
-) -> Result<Turn, PlayFailure>
-    requires steps { FitsSteps (S.arities steps.now) plan.now.tree }
-    requires few { answered.old ≤ 8 }
-    ensures { answered.new ≤ 8 }
-{
-    let given = &answers[..*answered];
-    let outcome = evaluated(alloc, plan, steps, reads, given, calls, out)?;
-    add_needed(outcome, values, reads, answers, answered, out)
 }
 
 // Adds the value or the answer that an evaluation needs.

@@ -32,31 +32,15 @@ pub(crate) fn do_task<W: Write>(
         job,
     } = task;
     match job {
-        RowJob::Session(mut parts) => {
-            do_under(alloc, mode, disk, handed, numbers, &mut parts, calls, out)
-        }
+        RowJob::Session(mut parts) => match handed {
+            Handed::None => do_with_none(alloc, mode, disk, numbers, &mut parts, calls, out),
+            Handed::Builtin => do_with_builtins(alloc, mode, disk, numbers, &mut parts, calls, out),
+            Handed::Broken => do_with_broken(alloc, mode, disk, numbers, &mut parts, calls, out),
+        },
         RowJob::Evaluate(values, tx) => {
             let steps = CountedSteps { counts: calls };
             evaluate_twice(alloc, numbers.vars, &values, tx, &steps, calls, out)
         }
-    }
-}
-
-// Makes the invariants, and plays parts on a device that is opened for these numbers under them.
-fn do_under<W: Write>(
-    alloc: Global,
-    mode: Mode,
-    disk: &mut SimDisk,
-    handed: Handed,
-    numbers: Numbers,
-    parts: &mut [RowPart],
-    calls: &CallCounts,
-    out: &mut W,
-) -> Result<(), PlayFailure> {
-    match handed {
-        Handed::None => do_with_none(alloc, mode, disk, numbers, parts, calls, out),
-        Handed::Builtin => do_with_builtins(alloc, mode, disk, numbers, parts, calls, out),
-        Handed::Broken => do_with_broken(alloc, mode, disk, numbers, parts, calls, out),
     }
 }
 

@@ -19,9 +19,14 @@ pub(crate) fn play<W: Write>(
     row: Row,
     out: &mut W,
 ) -> Result<(), PlayFailure> {
-    let mut disk = formatted(alloc, row.numbers)?;
+    let Row { numbers, acts } = row;
+    let mut disk = formatted(alloc, numbers)?;
     let calls = no_calls(alloc)?;
-    play_acts(alloc, mode, &mut disk, row, &calls, out)
+    for act in acts {
+        play_act(alloc, mode, &mut disk, act, &calls, out)?;
+        out.flush()?;
+    }
+    Ok(())
 }
 
 // A device that is formatted for these numbers.
@@ -30,22 +35,6 @@ fn formatted(alloc: Global, numbers: Numbers) -> Result<SimDisk, Fault> {
     let mut disk = SimDisk::new(alloc, layout.end())?;
     format(&mut disk, numbers.vars, numbers.slots)?;
     Ok(disk)
-}
-
-fn play_acts<W: Write>(
-    alloc: Global,
-    mode: Mode,
-    disk: &mut SimDisk,
-    row: Row,
-    calls: &CallCounts,
-    out: &mut W,
-) -> Result<(), PlayFailure> {
-    let Row { numbers: _, acts } = row;
-    for act in acts {
-        play_act(alloc, mode, disk, act, calls, out)?;
-        out.flush()?;
-    }
-    Ok(())
 }
 
 // Does one act on the device.
@@ -62,7 +51,7 @@ fn play_act<W: Write>(
             *disk = SimDisk::new(alloc, size)?;
             Ok(())
         }
-        RowAct::Touch(act) => touch(alloc, disk, act, out),
+        RowAct::Touch(act) => touch(alloc, disk, &act, out),
         RowAct::Do(task) => do_task(alloc, mode, disk, task, calls, out),
     }
 }

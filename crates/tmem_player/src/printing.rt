@@ -3,19 +3,14 @@
 use std::io::{self, Write};
 use tmem_fault::{Fault, Name};
 
-// Prints what stands in front of an item of this index.
-fn print_comma<W: Write>(index: usize, out: &mut W) -> io::Result<()> {
-    if index > 0 {
-        out.write_all(b",")
-    } else {
-        Ok(())
-    }
+// What stands in front of an item of this index.
+fn comma(index: usize) -> &'static str {
+    if index > 0 { "," } else { "" }
 }
 
 /// Prints a number, as an item of this index.
 pub(crate) fn print_number<W: Write>(index: usize, number: i64, out: &mut W) -> io::Result<()> {
-    print_comma(index, out)?;
-    write!(out, "{number}")
+    write!(out, "{}{number}", comma(index))
 }
 
 /// Prints numbers, joined by commas.
@@ -28,8 +23,7 @@ pub(crate) fn print_numbers<W: Write>(numbers: &[i64], out: &mut W) -> io::Resul
 
 /// Prints a name, as an item of this index.
 pub(crate) fn print_name<W: Write>(index: usize, name: &Name, out: &mut W) -> io::Result<()> {
-    print_comma(index, out)?;
-    write!(out, "{name}")
+    write!(out, "{}{name}", comma(index))
 }
 
 /// Prints a variable with its value, as an item of this index.
@@ -39,8 +33,7 @@ pub(crate) fn print_pair<W: Write>(
     value: i64,
     out: &mut W,
 ) -> io::Result<()> {
-    print_comma(index, out)?;
-    write!(out, "{var}:{value}")
+    write!(out, "{}{var}:{value}", comma(index))
 }
 
 /// Prints a fault as a line.

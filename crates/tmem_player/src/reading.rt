@@ -24,7 +24,9 @@ pub(crate) fn row_of(alloc: Global, text: &[u8]) -> Result<Row, PlayFailure> {
 fn row_of_value(alloc: Global, value: &Value) -> Result<Row, FormError> {
     let (numbers, events) = members_of(value).ok_or(FormError::NoForm)?;
     let mut draft = Draft::new(alloc, numbers);
-    add_entries(alloc, events, &mut draft)?;
+    for entry in events {
+        add_entry(alloc, entry, &mut draft)?;
+    }
     draft.finish()
 }
 
@@ -33,15 +35,12 @@ fn members_of(value: &Value) -> Option<(Numbers, &Vec<Value>)> {
     if value.as_object()?.len() != 3 {
         return None;
     }
-    let numbers = numbers_of(value.get("vars")?, value.get("slots")?)?;
-    Some((numbers, value.get("events")?.as_array()?))
-}
-
-fn add_entries(alloc: Global, entries: &[Value], draft: &mut Draft) -> Result<(), FormError> {
-    for entry in entries {
-        add_entry(alloc, entry, draft)?;
+    match (value.get("vars"), value.get("slots"), value.get("events")) {
+        (Some(vars), Some(slots), Some(Value::Array(events))) => {
+            Some((numbers_of(vars, slots)?, events))
+        }
+        _ => None,
     }
-    Ok(())
 }
 
 fn items_of(value: &Value) -> Result<&Vec<Value>, FormError> {
@@ -181,19 +180,19 @@ fn values_of(alloc: Global, value: &Value) -> Result<Vec<i64>, FormError> {
 
 // What is done to a device that needs no store.
 fn touch_of(alloc: Global, key: &str, body: &Value) -> Result<Touch, FormError> {
-    if key == "write" {
-        let (at, bytes) = pair_of(body)?;
-        let at = at.as_u64().ok_or(FormError::NoForm)?;
-        return Ok(Touch::Write(at, bytes_of(alloc, bytes)?));
-    }
-    listed_touch_of(key, items_of(body)?).ok_or(FormError::NoForm)
-}
-
-fn listed_touch_of(key: &str, items: &[Value]) -> Option<Touch> {
-    match items {
+    let touch = match items_of(body)?.as_slice() {
+        [at, bytes] if key == "write" => return write_of(alloc, at, bytes),
         [first, second] => pair_touch_of(key, first, second),
         [first, second, third] => triple_touch_of(key, first, second, third),
         _ => None,
+    };
+    touch.ok_or(FormError::NoForm)
+}
+
+fn write_of(alloc: Global, at: &Value, bytes: &Value) -> Result<Touch, FormError> {
+    match at.as_u64() {
+        Some(at) => Ok(Touch::Write(at, bytes_of(alloc, bytes)?)),
+        None => Err(FormError::NoForm),
     }
 }
 
@@ -201,7 +200,7 @@ fn pair_touch_of(key: &str, first: &Value, second: &Value) -> Option<Touch> {
     match key {
         "format" => Some(Touch::Format(numbers_of(first, second)?)),
         "recover" => Some(Touch::Recover(numbers_of(first, second)?)),
-        "fail" => Some(Touch::Fail(call_of(first)?, second.as_u64()?)),
+        "fail" => fail_of(first.as_str()?, second.as_u64()?),
         "crash" if first.as_str() == Some("now") => Some(Touch::CrashNow(fill_of(second)?)),
         "bytes" => Some(Touch::Bytes(first.as_u64()?, second.as_u64()?)),
         _ => None,
@@ -231,13 +230,14 @@ fn crash_of(when: &Value, number: u64, fill: Fill) -> Option<Touch> {
     }
 }
 
-fn call_of(value: &Value) -> Option<DeviceFault> {
-    match value.as_str()? {
-        "read" => Some(DeviceFault::Read),
-        "write" => Some(DeviceFault::Write),
-        "sync" => Some(DeviceFault::Sync),
-        _ => None,
-    }
+fn fail_of(call: &str, number: u64) -> Option<Touch> {
+    let call = match call {
+        "read" => DeviceFault::Read,
+        "write" => DeviceFault::Write,
+        "sync" => DeviceFault::Sync,
+        _ => return None,
+    };
+    Some(Touch::Fail(call, number))
 }
 
 fn fill_of(value: &Value) -> Option<Fill> {

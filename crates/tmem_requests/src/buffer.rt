@@ -118,9 +118,10 @@ fn key_in(alloc: Global, reader: &mut Reader<'_>) -> Option<Option<String>>
     ensures key { IfSome result (λ key. read_key reader.old ≡ Some (option_map string_bytes key, reader.new)) }
     ensures shorter { OnSome result (length reader.new < length reader.old) }
 {
-    match reader.next_key().ok()? {
-        Some(key) => Some(Some(String::from_str(alloc, key).ok()?)),
-        None => Some(None),
+    match reader.next_key() {
+        Ok(Some(key)) => Some(Some(String::from_str(alloc, key).ok()?)),
+        Ok(None) => Some(None),
+        Err(_) => None,
     }
 }
 

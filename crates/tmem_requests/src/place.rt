@@ -1,7 +1,7 @@
 //! Where in a line something is wrong.
 ghost use Rattle.std.specs.Prelude.{Some};
 
-use std::fmt;
+use std::fmt::{self, Display};
 
 /// A place in a line.
 #[derive(Drop)]
@@ -21,7 +21,7 @@ impl fmt::Display for RequestPlace {
         match self {
             RequestPlace::Pointer(steps) => {
                 for step in steps {
-                    write!(f, "{step}")?;
+                    step.fmt(f)?;
                 }
                 Ok(())
             }
@@ -46,9 +46,10 @@ impl fmt::Display for PointerStep {
     ghost output = { λ step. Some (step_text step) };
 
     fn fmt<W: fmt::Write>(&self, f: &mut fmt::Formatter<W>) -> fmt::Result {
+        f.write_str("/")?;
         match self {
-            PointerStep::Key(key) => write!(f, "/{key}"),
-            PointerStep::Item(number) => write!(f, "/{number}"),
+            PointerStep::Key(key) => f.write_str(key),
+            PointerStep::Item(number) => write!(f, "{number}"),
         }
     }
 }

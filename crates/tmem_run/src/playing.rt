@@ -80,9 +80,10 @@ pub fn play<R: Files<File = File> + AllocGlobal, W: Write>(
             ensures { result ≡ are_ordered values.now }
         { ordered(values) },
     );
-    let at_least_zero = at_least_zero.map_err(Fault::from)?;
-    let a_hundred = a_hundred.map_err(Fault::from)?;
-    let in_order = in_order.map_err(Fault::from)?;
+    let (Ok(at_least_zero), Ok(a_hundred), Ok(in_order)) = (at_least_zero, a_hundred, in_order)
+    else {
+        return Err(ProgramFailure::Refused(Fault::Memory));
+    };
     let table = table_of(alloc, script.vars, at_least_zero, a_hundred, in_order)?;
     play_with(
         rt,

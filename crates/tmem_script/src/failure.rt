@@ -4,8 +4,9 @@ ghost use Rattle.std.specs.Io.KnownBytes.{Appends};
 ghost use Rattle.tmem_script.specs.Statuses.{status_of, failure_line};
 
 use crate::script::ScriptError;
+use std::fmt::{self, Display};
+use std::io;
 use std::io::Write;
-use std::{fmt, io};
 use thiserror::Error;
 use tmem_fault::Fault;
 
@@ -30,11 +31,11 @@ impl fmt::Display for ProgramFailure {
 
     fn fmt<W: fmt::Write>(&self, f: &mut fmt::Formatter<W>) -> fmt::Result {
         match self {
-            ProgramFailure::Script(error) => write!(f, "{error}"),
-            ProgramFailure::Refused(fault) => write!(f, "{fault}"),
-            ProgramFailure::Output => write!(f, "output failed"),
-            ProgramFailure::Clock => write!(f, "no clock"),
-            ProgramFailure::Words(error) => write!(f, "{error}"),
+            ProgramFailure::Script(error) => error.fmt(f),
+            ProgramFailure::Refused(fault) => fault.fmt(f),
+            ProgramFailure::Output => f.write_str("output failed"),
+            ProgramFailure::Clock => f.write_str("no clock"),
+            ProgramFailure::Words(error) => error.fmt(f),
         }
     }
 }
@@ -54,8 +55,8 @@ impl fmt::Display for WordsError {
 
     fn fmt<W: fmt::Write>(&self, f: &mut fmt::Formatter<W>) -> fmt::Result {
         match self {
-            WordsError::NotText => write!(f, "the command line is not UTF-8"),
-            WordsError::Memory => write!(f, "not enough memory for the command line"),
+            WordsError::NotText => f.write_str("the command line is not UTF-8"),
+            WordsError::Memory => f.write_str("not enough memory for the command line"),
         }
     }
 }

@@ -1,9 +1,9 @@
 //! What is printed: one line for each reply.
-ghost use Rattle.std.specs.Prelude.{Some};
-ghost use Rattle.std.specs.Fmt.{DisplaysOnOk};
+ghost use Rattle.std.specs.Prelude.{◌++◌, Some};
+ghost use Rattle.std.specs.Fmt.{DisplaysOnOk, decimal};
 ghost use Rattle.tmem_script.specs.Lines.{numbers_joined, line_of, settled_line};
 
-use std::fmt;
+use std::fmt::{self, Display};
 use tmem_event::{Reply, Settled};
 
 /// The line of a reply, without its newline.
@@ -22,13 +22,21 @@ impl fmt::Display for ReplyLine {
             Reply::Ended => f.write_str("ended"),
             Reply::Idle => f.write_str("idle"),
             Reply::Settled(settled) => write_settled(f, settled),
-            Reply::Durable(number) => write!(f, "durable {number}"),
+            Reply::Durable(number) => write_count(f, "durable ", *number),
             Reply::Checkpointed => f.write_str("checkpointed"),
-            Reply::Looked(number) => write!(f, "look {number}"),
-            Reply::Opened(count) => write!(f, "opened {count}"),
-            Reply::Fault(fault) => write!(f, "{fault}"),
+            Reply::Looked(number) => write_count(f, "look ", *number),
+            Reply::Opened(count) => write_count(f, "opened ", *count),
+            Reply::Fault(fault) => fault.fmt(f),
         }
     }
+}
+
+// A number behind these words.
+fn write_count<W: fmt::Write>(f: &mut fmt::Formatter<W>, words: &str, count: u64) -> fmt::Result
+    ensures { DisplaysOnOk W.write_str_gives f.old result (Some (words.now ++ decimal count)) f.new }
+{
+    f.write_str(words)?;
+    write!(f, "{count}")
 }
 
 // What a transaction was answered.
@@ -36,13 +44,13 @@ fn write_settled<W: fmt::Write>(f: &mut fmt::Formatter<W>, settled: &Settled) ->
     ensures { DisplaysOnOk W.write_str_gives f.old result (Some (settled_line settled.now)) f.new }
 {
     match settled {
-        Settled::Committed { number, .. } => write!(f, "committed {number}"),
+        Settled::Committed { number, .. } => write_count(f, "committed ", *number),
         Settled::Seen { at, registers } => {
             write!(f, "seen {at} ")?;
             write_joined(f, registers)
         }
-        Settled::Retry => write!(f, "retry"),
-        Settled::Aborted(code) => write!(f, "aborted {code}"),
+        Settled::Retry => f.write_str("retry"),
+        Settled::Aborted(code) => write_count(f, "aborted ", u64::from(*code)),
         Settled::Refused(name) => write!(f, "refused {name}"),
     }
 }

@@ -8,7 +8,8 @@ ghost use Rattle.tmem_forms.specs.Errors.{Refuses};
 use crate::entry::entries_of;
 use serde_json::{Map, Value};
 use std::alloc::{AllocError, Global};
-use std::{fmt, io};
+use std::fmt::{self, Display};
+use std::io;
 use thiserror::Error;
 use tmem_event::Event;
 use tmem_fault::Fault;
@@ -53,9 +54,9 @@ impl fmt::Display for ScriptError {
 
     fn fmt<W: fmt::Write>(&self, f: &mut fmt::Formatter<W>) -> fmt::Result {
         match self {
-            ScriptError::Memory(_) => write!(f, "{}", Fault::Memory),
-            ScriptError::Unreadable => write!(f, "cannot read script"),
-            ScriptError::NoScript => write!(f, "bad script"),
+            ScriptError::Memory(_) => Fault::Memory.fmt(f),
+            ScriptError::Unreadable => f.write_str("cannot read script"),
+            ScriptError::NoScript => f.write_str("bad script"),
         }
     }
 }

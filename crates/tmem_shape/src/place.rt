@@ -51,37 +51,29 @@ impl fmt::Display for ShapePlace {
         match self {
             ShapePlace::Text { line, column } => write!(f, "line {line} column {column}"),
             ShapePlace::Whole => Ok(()),
-            ShapePlace::Member(key) => write!(f, "/{}", key.as_str()),
+            ShapePlace::Member(key) => write_step(f, key.as_str()),
             ShapePlace::Unknown(key) => write_step(f, key.as_str()),
+            ShapePlace::Invariant(i) => write!(f, "/invariants/{i}"),
+            ShapePlace::InvariantMember(i, key) => write_step_in(f, *i, key.as_str()),
+            ShapePlace::InvariantUnknown(i, key) => write_step_in(f, *i, key.as_str()),
+            ShapePlace::Term(i, term) => write!(f, "/invariants/{i}/sum/{term}"),
+            ShapePlace::TermItem(i, term, item) => write!(f, "/invariants/{i}/sum/{term}/{item}"),
             ShapePlace::Name(name) => {
                 f.write_str("/names")?;
                 write_step(f, name.as_str())
             }
-            _ => write_in_invariants(f, self),
         }
     }
 }
 
-// A place in the invariants; nothing of another place.
-fn write_in_invariants<W: fmt::Write>(
+// A step to a key of an invariant.
+fn write_step_in<W: fmt::Write>(
     f: &mut fmt::Formatter<W>,
-    place: &ShapePlace,
+    invariant: usize,
+    key: &str,
 ) -> fmt::Result {
-    match place {
-        ShapePlace::Invariant(i) => write!(f, "/invariants/{i}"),
-        ShapePlace::InvariantMember(i, key) => write!(f, "/invariants/{i}/{}", key.as_str()),
-        ShapePlace::InvariantUnknown(i, key) => {
-            write!(f, "/invariants/{i}")?;
-            write_step(f, key.as_str())
-        }
-        ShapePlace::Term(i, term) => write!(f, "/invariants/{i}/sum/{term}"),
-        ShapePlace::TermItem(i, term, item) => write!(f, "/invariants/{i}/sum/{term}/{item}"),
-        ShapePlace::Text { .. }
-        | ShapePlace::Whole
-        | ShapePlace::Member(_)
-        | ShapePlace::Unknown(_)
-        | ShapePlace::Name(_) => Ok(()),
-    }
+    write!(f, "/invariants/{invariant}")?;
+    write_step(f, key)
 }
 
 // A step of a pointer to a key: a `~` in it is written `~0`, and a `/` `~1`.
@@ -89,10 +81,10 @@ fn write_step<W: fmt::Write>(f: &mut fmt::Formatter<W>, key: &str) -> fmt::Resul
     f.write_str("/")?;
     for letter in key.chars() {
         match letter {
-            '~' => f.write_str("~0")?,
-            '/' => f.write_str("~1")?,
-            _ => write!(f, "{letter}")?,
-        }
+            '~' => f.write_str("~0"),
+            '/' => f.write_str("~1"),
+            _ => f.write_char(letter),
+        }?;
     }
     Ok(())
 }

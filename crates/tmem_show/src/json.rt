@@ -2,7 +2,6 @@
 ghost use Rattle.std.specs.Prelude.{◌≤◌, ◌<◌};
 
 use crate::error::ShowError;
-use crate::fields::Field;
 use crate::printer::Printer;
 use crate::shown::{OpeningResult, PartRole, ShownStore, Walked, opening_without_block, too_short};
 use crate::source::Source;
@@ -92,7 +91,10 @@ fn put_parts<W: Write>(
     if hex {
         put_fields(shown, &shown.walk_block()?, out);
     }
-    put_images(shown, hex, out)?;
+    out.put("},\"images\":[");
+    put_image(shown, 0, hex, out)?;
+    put_image(shown, 1, hex, out)?;
+    out.put("]");
     put_slots(alloc, shown, hex, out)?;
     let opening = shown.opening(version)?;
     put_opening(out, &opening);
@@ -105,15 +107,6 @@ fn put_block<W: Write>(out: &mut Printer<W>, version: Version, layout: Layout) {
     out.put_number(",\"vars\":", layout.vars as u64);
     out.put_number(",\"slots\":", layout.slots as u64);
     out.put_number(",\"end\":", layout.end());
-}
-
-// The end of block 0, and the image copies.
-fn put_images<W: Write>(shown: &ShownStore, hex: bool, out: &mut Printer<W>) -> Result<(), Fault> {
-    out.put("},\"images\":[");
-    put_image(shown, 0, hex, out)?;
-    put_image(shown, 1, hex, out)?;
-    out.put("]");
-    Ok(())
 }
 
 // The log slots.
@@ -267,20 +260,16 @@ fn put_records<W: Write>(out: &mut Printer<W>, effects: &[Effect]) {
 
 // A record, from its writes on.
 fn put_record<W: Write>(out: &mut Printer<W>, effect: &Effect) {
-    put_writes(out, effect.writes.as_slice());
-    put_names(out, "],\"checks\":[", effect.names.as_slice());
-    put_names(out, ",\"retires\":[", effect.retired.as_slice());
-    out.put("}");
-}
-
-fn put_writes<W: Write>(out: &mut Printer<W>, writes: &[(u16, i64)]) {
     let mut before = "[";
-    for (var, value) in writes {
+    for (var, value) in effect.writes.as_slice() {
         out.put_item(before, var);
         out.put_item(",", value);
         out.put("]");
         before = ",[";
     }
+    put_names(out, "],\"checks\":[", effect.names.as_slice());
+    put_names(out, ",\"retires\":[", effect.retired.as_slice());
+    out.put("}");
 }
 
 // That a part is open, and where it goes wrong.
@@ -335,20 +324,15 @@ fn put_fields<W: Write>(shown: &ShownStore, walked: &Walked, out: &mut Printer<W
     let mut before = "[";
     for field in &walked.fields {
         out.put_number(before, field.at);
-        put_field(shown, field, out);
+        out.put(",\"");
+        for byte in shown.bytes_of(field) {
+            out.put_byte("", *byte);
+        }
+        out.put_item("\",\"", &field.is);
+        out.put("\"]");
         before = ",[";
     }
     out.put("]");
-}
-
-// The bytes of a field, and what they are.
-fn put_field<W: Write>(shown: &ShownStore, field: &Field, out: &mut Printer<W>) {
-    out.put(",\"");
-    for byte in shown.bytes_of(field) {
-        out.put_byte("", *byte);
-    }
-    out.put_item("\",\"", &field.is);
-    out.put("\"]");
 }
 
 // Names in quotes, behind a text, with a comma between any two, and the end of their list.

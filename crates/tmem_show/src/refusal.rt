@@ -38,19 +38,23 @@ enum Part {
 
 impl fmt::Display for Refusal {
     fn fmt<W: fmt::Write>(&self, f: &mut fmt::Formatter<W>) -> fmt::Result {
-        let (part, number, wrong) = match self.place {
-            Place::In(Part::Block, wrong) => ("block", 0, wrong),
-            Place::In(Part::Image(copy), wrong) => ("image", copy as u64, wrong),
-            Place::In(Part::Slot(k), wrong) => ("slot", k, wrong),
-            Place::Before(size, wrong) => {
-                return write!(
-                    f,
-                    "it has {size} bytes, and the shortest store has {}; block 0, {wrong}",
-                    least_layout().end()
-                );
+        match &self.place {
+            Place::In(part, wrong) => {
+                let (name, number) = match part {
+                    Part::Block => ("block", 0),
+                    Part::Image(copy) => ("image", *copy as u64),
+                    Part::Slot(k) => ("slot", *k),
+                };
+                write!(f, "{name} {number}, {wrong}")
             }
-        };
-        write!(f, "{part} {number}, {wrong}")
+            Place::Before(size, wrong) => {
+                let shortest = least_layout().end();
+                write!(
+                    f,
+                    "it has {size} bytes, and the shortest store has {shortest}; block 0, {wrong}"
+                )
+            }
+        }
     }
 }
 

@@ -2,7 +2,6 @@
 ghost use Rattle.std.specs.Prelude.{◌≤◌, ◌<◌};
 
 use crate::error::ShowError;
-use crate::fields::Field;
 use crate::printer::Printer;
 use crate::shown::{OpeningResult, PartRole, ShownStore, Walked, opening_without_block, too_short};
 use crate::source::Source;
@@ -287,7 +286,11 @@ fn show_hex<W: Write>(shown: &ShownStore, walked: &Walked, hex: bool, out: &mut 
 // The bytes of a part, field by field.
 fn show_fields<W: Write>(shown: &ShownStore, walked: &Walked, out: &mut Printer<W>) {
     for field in &walked.fields {
-        show_field(shown, field, out);
+        out.put_number("  ", field.at);
+        out.put(":");
+        show_bytes(shown.bytes_of(field), out);
+        out.put_item("  ", &field.is);
+        out.put("\n");
     }
     if let Some(wrong) = walked.wrong {
         out.put_item("  ", &wrong);
@@ -295,17 +298,9 @@ fn show_fields<W: Write>(shown: &ShownStore, walked: &Walked, out: &mut Printer<
     }
 }
 
-fn show_field<W: Write>(shown: &ShownStore, field: &Field, out: &mut Printer<W>) {
-    out.put_number("  ", field.at);
-    out.put(":");
-    show_bytes(shown.bytes_of(field), out);
-    out.put_item("  ", &field.is);
-    out.put("\n");
-}
-
 // The first bytes of a field, and how many there are where those are not all.
 fn show_bytes<W: Write>(bytes: &[u8], out: &mut Printer<W>) {
-    for byte in bytes.iter().take(MOST_SHOWN) {
+    for byte in &bytes[..bytes.len().min(MOST_SHOWN)] {
         out.put_byte(" ", *byte);
     }
     if bytes.len() > MOST_SHOWN {

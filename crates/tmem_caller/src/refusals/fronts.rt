@@ -2,7 +2,7 @@
 ghost use Rattle.std.specs.Prelude.{◌≡◌, length};
 ghost use Rattle.tmem_tree.specs.Plans.{FitsSteps, FitsVariables, FitsNames, FitsShapes};
 
-use crate::refusals::printing::{say_fault, say_line, say_number};
+use crate::refusals::printing::{say_fault, say_line, say_name, say_number};
 use crate::refusals::tasks::{TASKS, Task};
 use std::alloc::Global;
 use std::rt::Clock;
@@ -39,36 +39,25 @@ const ALL: &[Call] = &[
     Call::AtomicallyWithin,
 ];
 
-/// Settles each transaction by each call that ends, reads all values, makes durable what was committed, and shuts the front.
+/// Prints what was opened, settles each transaction by each call that ends, reads all values, makes durable what was committed, and shuts
+/// the front.
 pub(crate) fn settle_all<N: StoreNaming, T: Invariants + Drop, R: Clock + Print + Wait>(
     rt: &R,
     alloc: Global,
     front: &StoreFront<N, T>,
-    looker: &mut Pass<N>,
 ) -> Result<(), Fault>
     requires { length N.opening.values ≡ 4 }
 {
-    say_state(rt, front, looker);
-    settle_each(rt, alloc, front, looker)?;
-    read_values(rt, front, looker)?;
-    end(rt, front, looker)
-}
-
-// Settles each transaction by its calls, each time by a pass that has no memory yet.
-fn settle_each<N: StoreNaming, T: Invariants + Drop, R: Clock + Print + Wait>(
-    rt: &R,
-    alloc: Global,
-    front: &StoreFront<N, T>,
-    looker: &mut Pass<N>,
-) -> Result<(), Fault>
-    requires { length N.opening.values ≡ 4 }
-{
+    let mut looker = front.pass(rt)?;
+    say_number(rt, "opened", front.look(&mut looker));
+    say_state(rt, front, &mut looker);
     for task in TASKS {
         for call in calls_of(*task) {
-            settle_task(rt, alloc, front, looker, *call, *task)?;
+            settle_task(rt, alloc, front, &mut looker, *call, *task)?;
         }
     }
-    Ok(())
+    read_values(rt, front, &mut looker)?;
+    end(rt, front, &mut looker)
 }
 
 // The calls that a transaction is settled by. For one that retries they wait for nothing.
@@ -79,7 +68,7 @@ fn calls_of(task: Task) -> &'static [Call] {
     }
 }
 
-// Plans a transaction, and settles it.
+// Plans a transaction, and settles it by a pass that has no memory yet; and once more where that is refused memory.
 fn settle_task<N: StoreNaming, T: Invariants + Drop, R: Clock + Print + Wait>(
     rt: &R,
     alloc: Global,
@@ -91,61 +80,35 @@ fn settle_task<N: StoreNaming, T: Invariants + Drop, R: Clock + Print + Wait>(
     requires { length N.opening.values ≡ 4 }
 {
     let tx = task.tx(alloc)?;
-    say_task(rt, task);
-    let plan = front.plan(tx)?;
-    settle_plan(rt, front, looker, &plan, call)
-}
-
-fn say_task<R: Print>(rt: &R, task: Task) {
     let _ = println!(rt; "{task:?}");
-}
-
-// Settles a plan by a pass that has no memory yet.
-fn settle_plan<N: StoreNaming, T: Invariants + Drop, R: Clock + Print + Wait>(
-    rt: &R,
-    front: &StoreFront<N, T>,
-    looker: &mut Pass<N>,
-    plan: &Plan,
-    call: Call,
-) -> Result<(), Fault>
-    requires vars { length N.opening.values ≡ 4 }
-    requires steps { FitsSteps (⟦<BuiltinSteps as StoredSteps>⟧.arities front.now.steps) plan.now.tree }
-    requires variables { FitsVariables front.now.vars plan.now }
-    requires names { FitsNames N.program.names plan.now.tree }
-    requires shapes { FitsShapes N.program.tests plan.now }
-{
+    let plan = front.plan(tx)?;
     let mut pass = front.pass(rt)?;
-    say_call(rt, call);
-    settle_twice(rt, front, looker, &mut pass, plan, call)
-}
-
-fn say_call<R: Print>(rt: &R, call: Call) {
     let _ = println!(rt; "by {call:?}");
+    if settle_and_say(rt, front, looker, &mut pass, &plan, call) {
+        settle_and_say(rt, front, looker, &mut pass, &plan, call);
+    }
+    Ok(())
 }
 
-// Settles a plan, and once more where that is refused memory.
-fn settle_twice<N: StoreNaming, T: Invariants + Drop, R: Clock + Print + Wait>(
+// Settles a plan, and prints how that ended and the state. Answers whether memory was refused.
+fn settle_and_say<N: StoreNaming, T: Invariants + Drop, R: Clock + Print + Wait>(
     rt: &R,
     front: &StoreFront<N, T>,
     looker: &mut Pass<N>,
     pass: &mut Pass<N>,
     plan: &Plan,
     call: Call,
-) -> Result<(), Fault>
+) -> bool
     requires vars { length N.opening.values ≡ 4 }
     requires steps { FitsSteps (⟦<BuiltinSteps as StoredSteps>⟧.arities front.now.steps) plan.now.tree }
     requires variables { FitsVariables front.now.vars plan.now }
     requires names { FitsNames N.program.names plan.now.tree }
     requires shapes { FitsShapes N.program.tests plan.now }
 {
-    let first = settled(rt, front, pass, plan, call);
-    say(rt, &first);
+    let settled = settled(rt, front, pass, plan, call);
+    say(rt, &settled);
     say_state(rt, front, looker);
-    if let Err(Fault::Memory) = first {
-        say(rt, &settled(rt, front, pass, plan, call));
-        say_state(rt, front, looker);
-    }
-    Ok(())
+    matches!(settled, Err(Fault::Memory))
 }
 
 // What a plan is settled with by a call.
@@ -176,14 +139,14 @@ fn settled<N: StoreNaming, T: Invariants + Drop, R: Clock + Wait>(
 
 // Prints how a call ended.
 fn say<R: Print>(rt: &R, settled: &Result<Settled, Fault>) {
-    let _ = match settled {
-        Ok(Settled::Committed { number, .. }) => println!(rt; "committed {number}"),
-        Ok(Settled::Seen { at, .. }) => println!(rt; "seen {at}"),
-        Ok(Settled::Retry) => println!(rt; "retry"),
-        Ok(Settled::Aborted(code)) => println!(rt; "aborted {code}"),
-        Ok(Settled::Refused(name)) => println!(rt; "refused {name}"),
-        Err(fault) => println!(rt; "{fault}"),
-    };
+    match settled {
+        Ok(Settled::Committed { number, .. }) => say_number(rt, "committed", *number),
+        Ok(Settled::Seen { at, .. }) => say_number(rt, "seen", *at),
+        Ok(Settled::Retry) => say_line(rt, "retry"),
+        Ok(Settled::Aborted(code)) => say_number(rt, "aborted", u64::from(*code)),
+        Ok(Settled::Refused(name)) => say_name(rt, "refused", name),
+        Err(fault) => say_fault(rt, *fault),
+    }
 }
 
 // Prints how many transactions are committed and durable, and the values.
@@ -194,15 +157,12 @@ fn say_state<N: StoreNaming, T: Invariants + Drop, R: Print + Wait>(
 )
     requires { length N.opening.values ≡ 4 }
 {
-    let counts = (front.count(rt, looker), front.look(looker));
-    let (a, b) = (front.peek(rt, 0), front.peek(rt, 1));
-    let (c, d) = (front.peek(rt, 2), front.peek(rt, 3));
-    print_state(rt, counts, &[a, b, c, d]);
-}
-
-fn print_state<R: Print>(rt: &R, counts: (u64, u64), values: &[i64; 4]) {
-    let (count, durable) = counts;
-    let [a, b, c, d] = values;
+    let count = front.count(rt, looker);
+    let durable = front.look(looker);
+    let a = front.peek(rt, 0);
+    let b = front.peek(rt, 1);
+    let c = front.peek(rt, 2);
+    let d = front.peek(rt, 3);
     let _ = println!(rt; "state count={count} durable={durable} values={a},{b},{c},{d}");
 }
 
@@ -233,7 +193,7 @@ fn say_values<R: Print>(rt: &R, values: &[i64]) {
     }
 }
 
-// Calls that ask for no memory, to the end.
+// Calls that ask for no memory, to the end: once the front is shut, a wait is refused.
 fn end<N: StoreNaming, T: Invariants + Drop, R: Clock + Print + Wait>(
     rt: &R,
     front: &StoreFront<N, T>,
@@ -245,17 +205,6 @@ fn end<N: StoreNaming, T: Invariants + Drop, R: Clock + Print + Wait>(
     front.checkpoint(rt)?;
     say_number(rt, "checkpoints", front.log(rt).checkpoints);
     say_number(rt, "durable", front.flush_with_room(rt)?);
-    shut(rt, front, looker)
-}
-
-// Makes one more pass, and shuts the front. A wait after that is refused.
-fn shut<N: StoreNaming, T: Invariants + Drop, R: Clock + Print + Wait>(
-    rt: &R,
-    front: &StoreFront<N, T>,
-    looker: &mut Pass<N>,
-) -> Result<(), Fault>
-    requires { length N.opening.values ≡ 4 }
-{
     let _pass = front.pass(rt)?;
     say_line(rt, "pass");
     front.shut(rt);

@@ -6,7 +6,7 @@ ghost use Rattle.tmem_front.specs.Held.{front_found, spine_of, front_steps, fron
 ghost use Rattle.tmem_caller.specs.Refusals.{refusals_program};
 
 use crate::refusals::fronts::settle_all;
-use crate::refusals::printing::{say_fault, say_line, say_number};
+use crate::refusals::printing::{say_fault, say_line};
 use crate::refusals::store::{SLOTS, VARS, content_of};
 use std::alloc::Global;
 use std::marker::Brand;
@@ -20,7 +20,7 @@ use tmem_invariants::Invariants;
 use tmem_tables::{Invariant, Table, Test};
 use tmem_tree::StoredSteps;
 
-/// Makes the invariant and its table, and opens the device with them. Where that is refused, it says so, and whether the device is as
+/// Makes the test of the invariant, and opens the device with it. Where that is refused, it says so, and whether the device is as
 /// it was, and hands it back.
 pub(crate) fn open_once<R: Clock + Print + Wait>(
     rt: &R,
@@ -28,11 +28,14 @@ pub(crate) fn open_once<R: Clock + Print + Wait>(
     mut disk: SimDisk,
 ) -> Result<Option<SimDisk>, Fault> {
     let before = content_of(alloc, &mut disk)?;
-    let Some((fault, mut disk)) = open_under_invariant(rt, alloc, disk)? else {
-        return Ok(None);
-    };
-    say_refused(rt, alloc, fault, &mut disk, &before)?;
-    Ok(Some(disk))
+    let test = Box::new(
+        alloc,
+        |values: &[i64]| -> bool
+            requires { length values.now ≡ 1 }
+            ensures { result ≡ is_not_negative values.now }
+        { nonneg(values) },
+    )?;
+    open_with(rt, alloc, disk, &before, test)
 }
 
 // Prints why the device was not opened, and whether it is as it was.
@@ -56,46 +59,32 @@ fn say_refused<R: Print>(
     Ok(())
 }
 
-// Makes the test of the invariant, and opens the device with it.
-fn open_under_invariant<R: Clock + Print + Wait>(
-    rt: &R,
-    alloc: Global,
-    disk: SimDisk,
-) -> Result<Option<(Fault, SimDisk)>, Fault> {
-    let test = Box::new(
-        alloc,
-        |values: &[i64]| -> bool
-            requires { length values.now ≡ 1 }
-            ensures { result ≡ is_not_negative values.now }
-        { nonneg(values) },
-    )?;
-    open_with(rt, alloc, disk, test)
-}
-
 // Makes the invariant of this test and its table, and opens the device with them.
 fn open_with<R: Clock + Print + Wait>(
     rt: &R,
     alloc: Global,
     disk: SimDisk,
+    before: &[u8],
     test: Test,
-) -> Result<Option<(Fault, SimDisk)>, Fault>
+) -> Result<Option<SimDisk>, Fault>
     requires callable { MayCall (Test.pre test) 1 }
     requires stated { Gives (Test.post test) 1 is_not_negative }
 {
     let invariant = Invariant::new(names()[0], vec![in alloc; 0]?, test)?;
     let table = Table::of(alloc, vec![in alloc; invariant]?, VARS)?;
     say_line(rt, "closures");
-    open(rt, alloc, disk, table, stored_steps())
+    open(rt, alloc, disk, before, table, stored_steps())
 }
 
-// Opens a device, and settles transactions there. Answers why it was not opened, with the device.
+// Opens a device that has these bytes, and settles transactions there. Hands it back where that is refused.
 fn open<T: Invariants + Drop, R: Clock + Print + Wait>(
     rt: &R,
     alloc: Global,
     disk: SimDisk,
+    before: &[u8],
     table: T,
     steps: BuiltinSteps,
-) -> Result<Option<(Fault, SimDisk)>, Fault>
+) -> Result<Option<SimDisk>, Fault>
     requires vars { T.vars table ≡ 4 }
     requires names { T.names table ≡ refusals_program.names }
     requires tests { T.is_stated table refusals_program.tests }
@@ -106,7 +95,10 @@ fn open<T: Invariants + Drop, R: Clock + Print + Wait>(
             with_front::<Brand, T, R>(rt, alloc, opened)?;
             Ok(None)
         }
-        Err(refused) => Ok(Some(refused)),
+        Err((fault, mut disk)) => {
+            say_refused(rt, alloc, fault, &mut disk, before)?;
+            Ok(Some(disk))
+        }
     }
 }
 
@@ -125,7 +117,5 @@ fn with_front<N: StoreNaming, T: Invariants + Drop, R: Clock + Print + Wait>(
     requires steps { ⟦<BuiltinSteps as StoredSteps>⟧.is_stated (front_steps opened) refusals_program.steps }
 {
     let front = opened.named::<N>();
-    let mut looker = front.pass(rt)?;
-    say_number(rt, "opened", front.look(&mut looker));
-    settle_all(rt, alloc, &front, &mut looker)
+    settle_all(rt, alloc, &front)
 }

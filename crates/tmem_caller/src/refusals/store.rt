@@ -41,18 +41,12 @@ fn with_transaction<T: Invariants + Drop, S: StoredSteps + Drop>(
     requires { T.vars table ≡ 4 }
 {
     match World::open(alloc, disk, VARS, SLOTS, table, steps) {
-        Ok(world) => left_by(alloc, world),
+        Ok(mut world) => {
+            commit(&mut world, put(alloc, 1, 7)?)?;
+            Ok(world.into_disk())
+        }
         Err((fault, _disk)) => Err(fault),
     }
-}
-
-// Puts the transaction into a world, and gives the world's device.
-fn left_by<D: Disk + Drop, T: Invariants + Drop, S: StoredSteps + Drop>(
-    alloc: Global,
-    mut world: World<D, T, S>,
-) -> Result<D, Fault> {
-    commit(&mut world, put(alloc, 1, 7)?)?;
-    Ok(world.into_disk())
 }
 
 // Commits a transaction, and makes it durable: the first one.
@@ -63,8 +57,9 @@ fn commit<D: Disk + Drop, T: Invariants + Drop, S: StoredSteps + Drop>(
     step(world, Event::Begin { slot: 0, tx })?;
     step(world, Event::Turn { slot: 0 })?;
     step(world, Event::Settle { slot: 0 })?;
-    match step(world, Event::Flush)? {
+    match world.step(Event::Flush) {
         Reply::Durable(1) => Ok(()),
+        Reply::Fault(fault) => Err(fault),
         _ => Err(Fault::Closed),
     }
 }
@@ -73,12 +68,12 @@ fn commit<D: Disk + Drop, T: Invariants + Drop, S: StoredSteps + Drop>(
 fn step<D: Disk + Drop, T: Invariants + Drop, S: StoredSteps + Drop>(
     world: &mut World<D, T, S>,
     event: Event,
-) -> Result<Reply, Fault>
+) -> Result<(), Fault>
     requires { NamesAttempt event }
 {
     match world.step(event) {
         Reply::Fault(fault) => Err(fault),
-        reply => Ok(reply),
+        _ => Ok(()),
     }
 }
 

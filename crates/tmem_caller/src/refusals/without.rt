@@ -3,7 +3,7 @@ ghost use Rattle.std.specs.Prelude.{◌≡◌, ◌∷◌, [], length};
 ghost use Rattle.tmem_builtins.specs.Invariants.{is_not_negative};
 ghost use Rattle.tmem_invariants.specs.Answers.{HasMeaning, MayCall};
 
-use crate::refusals::printing::say_line;
+use crate::refusals::printing::{say_line, say_name, say_number};
 use crate::refusals::store::{SLOTS, VARS, device};
 use std::alloc::Global;
 use tmem_builtins::nonneg;
@@ -43,24 +43,6 @@ fn call_over<R: Print>(
             ensures { result ≡ is_not_negative values.now }
         { nonneg(values) },
     )?;
-    call_with(rt, alloc, disk, batch, bytes, footprint, test)
-}
-
-// The same, with the footprint of an invariant and its test too.
-fn call_with<R: Print>(
-    rt: &R,
-    alloc: Global,
-    disk: &mut SimDisk,
-    batch: &mut Batch,
-    bytes: &mut [u8],
-    footprint: Vec<u16>,
-    test: Test,
-) -> Result<(), Fault>
-    requires bytes { length bytes.old ≡ 4096 }
-    requires footprint { footprint.items ≡ 0 ∷ [] }
-    requires callable { MayCall (Test.pre test) 1 }
-    requires stated { HasMeaning (Test.post test) 1 }
-{
     say_line(rt, "device, batch, bytes, footprint and closure");
     call_on_device(rt, disk, batch, bytes)?;
     call_on_test(rt, alloc, footprint, test)
@@ -77,7 +59,9 @@ fn call_on_test<R: Print>(
     requires callable { MayCall (Test.pre test) 1 }
     requires stated { HasMeaning (Test.post test) 1 }
 {
-    let invariant = Invariant::new(made_name(rt)?, footprint, test)?;
+    let name = Name::new("nonneg")?;
+    say_name(rt, "name", &name);
+    let invariant = Invariant::new(name, footprint, test)?;
     say_name(rt, "invariant", &invariant.name);
     let table = Table::of(alloc, vec![in alloc; invariant]?, VARS)?;
     say_line(rt, "table");
@@ -99,16 +83,6 @@ fn call_on_device<R: Print>(
     call_gates(rt, disk);
     fill(rt, batch, bytes);
     Ok(())
-}
-
-fn made_name<R: Print>(rt: &R) -> Result<Name, Fault> {
-    let name = Name::new("nonneg")?;
-    say_name(rt, "name", &name);
-    Ok(name)
-}
-
-fn say_name<R: Print>(rt: &R, what: &str, name: &Name) {
-    let _ = println!(rt; "{what} {name}");
 }
 
 // The calls of a gate, which block 0 has at its start: it is open, and then closed.
@@ -141,10 +115,10 @@ fn fill<R: Print>(rt: &R, batch: &mut Batch, bytes: &mut [u8])
     let _ = println!(rt; "put {is_put}");
     if batch.len() > 0 {
         let count = encode_batch(batch, 1, 0, bytes);
-        let _ = println!(rt; "spelt {count}");
+        say_number(rt, "spelt", count as u64);
     }
     batch.clear();
-    let _ = println!(rt; "cleared {}", batch.len());
+    say_number(rt, "cleared", batch.len() as u64);
 }
 
 // The two tests of a table, where variable 0 is below 0.

@@ -5,7 +5,7 @@ ghost use Rattle.tmem_caller.specs.Serving.{solvent};
 
 use crate::serving::output::Output;
 use crate::serving::row::{ServedBy, ServedRow};
-use crate::serving::store::{SLOTS, ServingEnd, VARS, device};
+use crate::serving::store::{SLOTS, ServingEnd, VARS};
 use std::alloc::Global;
 use std::marker::Brand;
 use std::sync::Wait;
@@ -13,7 +13,7 @@ use tmem_builtins::{BuiltinSteps, stored_steps};
 use tmem_desk::{Desk, DeskFailure, ServedNaming, ServedStore};
 use tmem_disk::SimDisk;
 use tmem_fault::Name;
-use tmem_front::{Front, OpenedFront, Pass};
+use tmem_front::{OpenedFront, Pass};
 use tmem_invariants::Invariants;
 use tmem_lines::Lines;
 use tmem_serve::Service;
@@ -24,32 +24,36 @@ pub(crate) fn serve_by_desk<T: Invariants + Drop, R: Wait>(
     rt: &R,
     alloc: Global,
     row: &ServedRow,
+    disk: SimDisk,
+    names: &[Name],
     table: T,
     out: &mut Output,
 ) -> ServingEnd
     requires vars { T.vars table ≡ VARS }
+    requires named { names.now ≡ solvent.names }
     requires names { T.names table ≡ solvent.names }
     requires tests { T.is_stated table solvent.tests }
 {
-    let disk = device(alloc, row.fails)?;
     match OpenedFront::open(alloc, disk, VARS, SLOTS, table, stored_steps()) {
-        Ok(opened) => serve_named::<Brand, T, R>(rt, alloc, row, opened, out),
+        Ok(opened) => serve_opened::<Brand, T, R>(rt, alloc, row, opened, names, out),
         Err((fault, _disk)) => Err(DeskFailure::Fault(fault)),
     }
 }
 
 // Gives the store its name in the types, and serves it.
-fn serve_named<N: ServedNaming, T: Invariants + Drop, R: Wait>(
+fn serve_opened<N: ServedNaming, T: Invariants + Drop, R: Wait>(
     rt: &R,
     alloc: Global,
     row: &ServedRow,
     opened: OpenedFront<SimDisk, T, BuiltinSteps>,
+    names: &[Name],
     out: &mut Output,
 ) -> ServingEnd
     requires spine { spine_of opened ≡ N.name }
     requires opening { front_found opened ≡ N.opening }
     requires program { N.program ≡ solvent }
     requires values { length (front_found opened).values ≡ VARS }
+    requires named { names.now ≡ solvent.names }
     requires names { T.names (front_table opened) ≡ solvent.names }
     requires stated { T.is_stated (front_table opened) solvent.tests }
     requires steps { ⟦<BuiltinSteps as StoredSteps>⟧.is_stated (front_steps opened) solvent.steps }
@@ -57,24 +61,7 @@ fn serve_named<N: ServedNaming, T: Invariants + Drop, R: Wait>(
     requires always { N.always ≡ [] }
 {
     let front = opened.named::<N>();
-    serve_front(rt, alloc, row, &front, out)
-}
-
-// Serves a store that has its name.
-fn serve_front<N: ServedNaming, T: Invariants + Drop, R: Wait>(
-    rt: &R,
-    alloc: Global,
-    row: &ServedRow,
-    front: &Front<SimDisk, N, T, BuiltinSteps>,
-    out: &mut Output,
-) -> ServingEnd
-    requires arities { ⟦<BuiltinSteps as StoredSteps>⟧.arities front.now.steps ≡ N.arities }
-    requires values { length N.opening.values ≡ VARS }
-    requires names { N.program.names ≡ solvent.names }
-    requires always { N.always ≡ [] }
-{
-    let names = [Name::new("solvent")?];
-    let service = Service::new(rt, alloc, front, VARS, &names, &[]);
+    let service = Service::new(rt, alloc, &front, VARS, names, &[]);
     if let ServedBy::SecondDesk = row.by {
         commit_by_desk(alloc, &service, front.pass(rt)?);
     }

@@ -65,9 +65,9 @@ impl Write for Output {
             return Err(io::Error::from(kind));
         }
         let count = self.taken.len();
-        if self.flushed.last() != Some(&count) {
-            self.flushed.push(count)?;
+        match self.flushed.last() {
+            Some(last) if *last == count => Ok(()),
+            _ => Ok(self.flushed.push(count)?),
         }
-        Ok(())
     }
 }

@@ -6,7 +6,6 @@ use serde_json::Value;
 use std::alloc::Global;
 use std::io::ErrorKind;
 use tmem_fault::Fault;
-use tmem_forms::FormError;
 
 /// What is served.
 #[derive(Drop)]
@@ -33,16 +32,24 @@ pub(crate) enum ServedBy {
 /// What a row says, and its output.
 pub(crate) fn row_of(alloc: Global, text: &[u8]) -> Result<(ServedRow, Output), CallFailure> {
     match Value::from_slice(alloc, text) {
-        Ok(value) => Ok(row_of_value(alloc, &value)?),
+        Ok(value) => row_of_value(alloc, &value),
         Err(error) if error.is_memory() => Err(CallFailure::Refused(Fault::Memory)),
         Err(_) => Err(CallFailure::NoRow),
     }
 }
 
-fn row_of_value(alloc: Global, value: &Value) -> Result<(ServedRow, Output), FormError> {
-    let (by, pieces) = members_of(value).ok_or(FormError::NoForm)?;
+fn row_of_value(alloc: Global, value: &Value) -> Result<(ServedRow, Output), CallFailure> {
+    let Some(by) = value.get("by").and_then(by_of) else {
+        return Err(CallFailure::NoRow);
+    };
+    let Some(pieces) = value.get("pieces").and_then(Value::as_array) else {
+        return Err(CallFailure::NoRow);
+    };
     let pieces = pieces_of(alloc, pieces)?;
-    let writes = writes_of(alloc, value.get("writes"))?;
+    let writes = match value.get("writes") {
+        Some(turns) => writes_of(alloc, turns)?,
+        None => Vec::new(alloc),
+    };
     let row = ServedRow {
         by,
         fails: value.get("fails").and_then(Value::as_u64),
@@ -56,22 +63,16 @@ fn row_of_value(alloc: Global, value: &Value) -> Result<(ServedRow, Output), For
     Ok((row, Output::new(alloc, writes, flush_fails)))
 }
 
-fn members_of(value: &Value) -> Option<(ServedBy, &Vec<Value>)> {
-    let by = match value.get("by")?.as_str()? {
-        "desk" => ServedBy::Desk,
-        "second desk" => ServedBy::SecondDesk,
-        "store" => ServedBy::Store,
-        _ => return None,
-    };
-    Some((by, value.get("pieces")?.as_array()?))
+fn by_of(value: &Value) -> Option<ServedBy> {
+    match value.as_str() {
+        Some("desk") => Some(ServedBy::Desk),
+        Some("second desk") => Some(ServedBy::SecondDesk),
+        Some("store") => Some(ServedBy::Store),
+        _ => None,
+    }
 }
 
-// The items of an array.
-fn items_of(value: &Value) -> Result<&Vec<Value>, FormError> {
-    value.as_array().ok_or(FormError::NoForm)
-}
-
-fn pieces_of(alloc: Global, values: &[Value]) -> Result<Vec<Vec<u8>>, FormError> {
+fn pieces_of(alloc: Global, values: &[Value]) -> Result<Vec<Vec<u8>>, CallFailure> {
     let mut pieces = Vec::new(alloc);
     for value in values {
         pieces.push(piece_of(alloc, value)?)?;
@@ -80,28 +81,40 @@ fn pieces_of(alloc: Global, values: &[Value]) -> Result<Vec<Vec<u8>>, FormError>
 }
 
 // A piece, which is put together of texts.
-fn piece_of(alloc: Global, value: &Value) -> Result<Vec<u8>, FormError> {
+fn piece_of(alloc: Global, value: &Value) -> Result<Vec<u8>, CallFailure> {
+    let Some(texts) = value.as_array() else {
+        return Err(CallFailure::NoRow);
+    };
     let mut piece = Vec::new(alloc);
-    for text in items_of(value)? {
-        let text = text.as_str().ok_or(FormError::NoForm)?;
+    for text in texts {
+        let Some(text) = text.as_str() else {
+            return Err(CallFailure::NoRow);
+        };
         piece.extend_from_slice(text.as_bytes())?;
     }
     Ok(piece)
 }
 
-fn writes_of(alloc: Global, value: Option<&Value>) -> Result<Vec<WriteTurn>, FormError> {
+fn writes_of(alloc: Global, value: &Value) -> Result<Vec<WriteTurn>, CallFailure> {
+    let Some(turns) = value.as_array() else {
+        return Err(CallFailure::NoRow);
+    };
     let mut writes = Vec::new(alloc);
-    if let Some(value) = value {
-        for turn in items_of(value)? {
-            writes.push(turn_of(turn).ok_or(FormError::NoForm)?)?;
-        }
+    for turn in turns {
+        let Some(turn) = turn_of(turn) else {
+            return Err(CallFailure::NoRow);
+        };
+        writes.push(turn)?;
     }
     Ok(writes)
 }
 
 fn turn_of(value: &Value) -> Option<WriteTurn> {
     match value.as_str() {
-        None => Some(Ok(value.as_u64()? as usize)),
+        None => match value.as_u64() {
+            Some(most) => Some(Ok(most as usize)),
+            None => None,
+        },
         Some("all") => Some(Ok(usize::MAX)),
         Some("signal") => Some(Err(ErrorKind::Interrupted)),
         Some("failure") => Some(Err(ErrorKind::Other)),

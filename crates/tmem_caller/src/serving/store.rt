@@ -56,12 +56,11 @@ fn serve_under<R: Wait>(
     requires callable { MayCall (Test.pre test) 2 }
     requires stated { Gives (Test.post test) 2 has_no_negative }
 {
-    let invariant = Invariant::new(Name::new("solvent")?, vec![in alloc; 0, 1]?, test)?;
+    let names = [Name::new("solvent")?];
+    let invariant = Invariant::new(names[0], vec![in alloc; 0, 1]?, test)?;
     let table = Table::of(alloc, vec![in alloc; invariant]?, VARS)?;
-    Ok(match row.by {
-        ServedBy::Store => serve_whole(rt, alloc, row, table, out),
-        ServedBy::Desk | ServedBy::SecondDesk => serve_by_desk(rt, alloc, row, table, out),
-    })
+    let disk = device(alloc, row.fails)?;
+    Ok(serve_row(rt, alloc, row, disk, &names, table, out))
 }
 
 // Whether a value is below zero.
@@ -71,8 +70,8 @@ fn has_negative(values: &[i64]) -> bool
     values.iter().any(|value| *value < 0)
 }
 
-/// The device of a new store, of which this sync fails, counted from 0 once the store is open.
-pub(crate) fn device(alloc: Global, fails: Option<u64>) -> Result<SimDisk, Fault> {
+// The device of a new store, of which this sync fails, counted from 0 once the store is open.
+fn device(alloc: Global, fails: Option<u64>) -> Result<SimDisk, Fault> {
     let mut disk = SimDisk::new(alloc, Layout::new(VARS, SLOTS)?.end())?;
     format(&mut disk, VARS, SLOTS)?;
     if let Some(k) = fails {
@@ -82,26 +81,29 @@ pub(crate) fn device(alloc: Global, fails: Option<u64>) -> Result<SimDisk, Fault
     Ok(disk)
 }
 
-// Serves the pieces by `serve_store`.
-fn serve_whole<T: Invariants + Drop, R: Wait>(
+// Serves the pieces of a row by a desk or by `serve_store`.
+fn serve_row<T: Invariants + Drop, R: Wait>(
     rt: &R,
     alloc: Global,
     row: &ServedRow,
+    disk: SimDisk,
+    names: &[Name],
     table: T,
     out: &mut Output,
 ) -> ServingEnd
     requires vars { T.vars table ≡ VARS }
+    requires named { names.now ≡ solvent.names }
     requires names { T.names table ≡ solvent.names }
     requires tests { T.is_stated table solvent.tests }
 {
-    let disk = device(alloc, row.fails)?;
-    let names = [Name::new("solvent")?];
-    let variables = Vec::new(alloc);
+    if let ServedBy::Desk | ServedBy::SecondDesk = row.by {
+        return serve_by_desk(rt, alloc, row, disk, names, table, out);
+    }
     let served = Served {
         vars: VARS,
         slots: SLOTS,
-        variables: &variables,
-        names: &names,
+        variables: &[],
+        names,
         always: &[],
     };
     let mut input = Pieces::new(&row.pieces);

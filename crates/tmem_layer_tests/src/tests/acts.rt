@@ -1,9 +1,9 @@
 //! What a test does to a device, to an image on it or to its journal, as data: each act says what it is answered.
 use super::counting::CountDisk;
 use super::effects::are_spelled;
-use super::flushing::{flush, flush_two, holds_run, is_run_flushed};
+use super::flushing::{flush, flush_name, flush_two, holds_run, is_run_flushed};
+use super::refusals::Refusal;
 use std::alloc::{AllocGlobal, Global};
-use std::mem;
 use std::process::Abort;
 use tmem_disk::{DeviceFault, Disk, Fill, SimDisk};
 use tmem_fault::{Fault, Name};
@@ -19,6 +19,8 @@ pub(super) enum Act<'a> {
     Case(&'a str),
     /// Begins a row of a case.
     Row,
+    /// Each act from here on, up to the next row or case, is answered otherwise than it says. There is one.
+    Otherwise,
     /// A new device of so many zeros, in the place of any other.
     Makes(u64),
     /// A new device of so many bytes, in the place of any other: these from these offsets on, and zeros elsewhere. It is synced.
@@ -60,31 +62,31 @@ pub(super) enum Act<'a> {
     /// These are all of its writes since then, each its offset and how many bytes it had.
     Wrote(&'a [(u64, usize)]),
     /// Is formatted for so many variables and slots.
-    Formats(u16, u16, Result<(), &'a str>),
+    Formats(u16, u16, Result<(), Refusal>),
     /// The copy of the image that is chosen on a device of `IMAGE_VARS` variables.
-    Chooses(Result<u8, &'a str>),
+    Chooses(Result<u8, Refusal>),
     /// Writes the image of `state` to a copy, with a generation, on a device that is synced before.
-    Puts(u8, u64, Result<(), &'a str>),
+    Puts(u8, u64, Result<(), Refusal>),
     /// The generation of a copy of the image, which holds what formatting wrote where it is 1, and else `state`.
-    Loads(u8, Result<u64, &'a str>),
+    Loads(u8, Result<u64, Refusal>),
     /// A journal is opened for so many variables and slots, and so many transactions are found. Where it is refused, the
     /// device is handed back.
-    Opens(u16, u16, Result<u64, &'a str>),
+    Opens(u16, u16, Result<u64, Refusal>),
     /// Of an open journal: a batch of one record is flushed, which writes a number to variable 0.
-    Flushes(i64, Result<u64, &'a str>),
+    Flushes(i64, Result<u64, Refusal>),
     /// Of an open journal: a batch of one record is flushed, which writes a number to a variable.
-    FlushesTo(u16, i64, Result<u64, &'a str>),
+    FlushesTo(u16, i64, Result<u64, Refusal>),
     /// Of an open journal: a batch of one record is flushed, which writes this number to each of two variables.
-    FlushesBoth(u16, u16, i64, Result<u64, &'a str>),
+    FlushesBoth(u16, u16, i64, Result<u64, Refusal>),
     /// Of an open journal: a batch of two records is flushed, each of which writes this number to one variable.
-    FlushesTwo(u16, u16, i64, Result<u64, &'a str>),
+    FlushesTwo(u16, u16, i64, Result<u64, Refusal>),
     /// Of an open journal: a batch of one record is flushed, which checks this name and writes nothing.
-    FlushesName(&'a str, Result<u64, &'a str>),
+    FlushesName(&'a str, Result<u64, Refusal>),
     /// Of an open journal: batches are flushed until there are so many, each over another variable, with a checkpoint whenever the log
     /// is full.
     FlushesRun(u16),
     /// Of an open journal.
-    Checkpoints(Result<(), &'a str>),
+    Checkpoints(Result<(), Refusal>),
     /// Of an open journal: so many transactions are durable, with this number in variable 0.
     Holds(u64, i64),
     /// Of an open journal: variables have these numbers.
@@ -105,21 +107,31 @@ pub(super) type Device = CountDisk<SimDisk>;
 /// Between two acts.
 #[derive(Drop)]
 struct Store {
-    // of no byte while a journal is open, which has the device then
-    disk: Device,
+    // none while a journal is open, which has the device then
+    disk: Option<Device>,
     journal: Option<Journal<Device>>,
 }
 
 /// Does what the cases say, each row on a store of its own, and fails where an act is answered otherwise.
 pub(super) fn play<R: Abort + AllocGlobal>(rt: &R, acts: &[Act]) {
     assert!(rt; each_case_has_a_row(acts));
-    if let Some((name, row, act)) = first_other(rt.alloc(), acts) {
-        fail(rt, name, row, act);
+    let mut case = acts;
+    let mut name = "";
+    for (index, act) in acts.iter().enumerate() {
+        let behind = &acts[index + 1..];
+        match *act {
+            Act::Case(named) => {
+                case = behind;
+                name = named;
+            }
+            Act::Row => {
+                if let Some(other) = other_in_row(rt.alloc(), case, behind) {
+                    panic!(rt; "{name}, row at {index}: act {other} of its case or its own");
+                }
+            }
+            _ => {}
+        }
     }
-}
-
-fn fail(rt: &impl Abort, name: &str, row: usize, act: usize) {
-    panic!(rt; "{name}, row at {row}: act {act} of its case or its own");
 }
 
 /// Whether there is a case, and a row follows each one before the next, so that all are played.
@@ -139,34 +151,13 @@ fn each_case_has_a_row(acts: &[Act]) -> bool {
     has_row
 }
 
-/// The name of the first case, the index of its first row, and the first act there that is answered otherwise.
-fn first_other<'a>(alloc: Global, acts: &[Act<'a>]) -> Option<(&'a str, usize, usize)> {
-    let mut case = acts;
-    let mut name = "";
-    for (index, act) in acts.iter().enumerate() {
-        match act {
-            Act::Case(named) => {
-                case = &acts[index + 1..];
-                name = *named;
-            }
-            Act::Row => {
-                if let Some(other) = other_in_row(alloc, case, &acts[index + 1..]) {
-                    return Some((name, index, other));
-                }
-            }
-            _ => {}
-        }
-    }
-    None
-}
-
 /// The first act that is answered otherwise, by its number in the case or in the row.
 fn other_in_row(alloc: Global, case: &[Act], row: &[Act]) -> Option<usize> {
     let Ok(disk) = made(alloc, 0) else {
         return Some(0);
     };
     let mut store = Store {
-        disk,
+        disk: Some(disk),
         journal: None,
     };
     match differing_in(alloc, &mut store, case) {
@@ -175,14 +166,24 @@ fn other_in_row(alloc: Global, case: &[Act], row: &[Act]) -> Option<usize> {
     }
 }
 
-/// The first of the acts up to the next row or case that is answered otherwise.
+/// Whether a row or a case begins there, or nothing is left.
+fn ends_at(acts: &[Act], index: usize) -> bool {
+    matches!(acts.get(index), None | Some(Act::Case(_) | Act::Row))
+}
+
+/// The first of the acts up to the next row or case that is not answered as it is to be.
 fn differing_in(alloc: Global, store: &mut Store, acts: &[Act]) -> Option<usize> {
+    let mut wanted = true;
     for (index, act) in acts.iter().enumerate() {
-        if matches!(act, Act::Case(_) | Act::Row) {
-            return None;
-        }
-        if !is_so(alloc, store, act) {
-            return Some(index);
+        match act {
+            Act::Case(_) | Act::Row => return None,
+            Act::Otherwise if ends_at(acts, index + 1) => return Some(index),
+            Act::Otherwise => wanted = false,
+            _ => {
+                if is_so(alloc, store, act) != wanted {
+                    return Some(index);
+                }
+            }
         }
     }
     None
@@ -190,56 +191,52 @@ fn differing_in(alloc: Global, store: &mut Store, acts: &[Act]) -> Option<usize>
 
 /// Whether an act is answered so.
 fn is_so(alloc: Global, store: &mut Store, act: &Act) -> bool {
-    match act {
-        Act::Opens(vars, slots, answer) => is_opened(alloc, store, *vars, *slots, *answer),
+    match *act {
+        Act::Opens(vars, slots, answer) => is_opened(alloc, store, vars, slots, answer),
         Act::Closes => is_ended(store),
         _ => match &mut store.journal {
             Some(journal) => is_so_of_journal(alloc, journal, act),
-            None => is_so_of_device(alloc, &mut store.disk, act),
+            None => match &mut store.disk {
+                Some(disk) => is_so_of_device(alloc, disk, act),
+                None => false,
+            },
         },
     }
 }
 
-/// Whether opening a journal is answered so.
+/// Whether opening a journal is answered so, for so many variables and slots.
 fn is_opened(
     alloc: Global,
     store: &mut Store,
     vars: u16,
     slots: u16,
-    answer: Result<u64, &str>,
+    answer: Result<u64, Refusal>,
 ) -> bool {
-    if store.journal.is_some() {
-        return false;
-    }
-    let Ok(none) = made(alloc, 0) else {
+    let Some(disk) = store.disk.take() else {
         return false;
     };
-    let disk = mem::replace(&mut store.disk, none);
     match Journal::open(alloc, disk, vars, slots) {
         Ok(journal) => {
-            let is_so = is_journal_of(&journal, vars, slots)
+            let numbers = journal.layout();
+            let is_so = numbers.vars == vars
+                && numbers.slots == slots
+                && !journal.is_closed()
                 && is_same(Ok(journal.count()), answer);
             store.journal = Some(journal);
             is_so
         }
         Err((fault, disk)) => {
-            store.disk = disk;
+            store.disk = Some(disk);
             is_same(Err(fault), answer)
         }
     }
-}
-
-/// Whether a journal is open, and for so many variables and slots.
-fn is_journal_of(journal: &Journal<Device>, vars: u16, slots: u16) -> bool {
-    let numbers = journal.layout();
-    numbers.vars == vars && numbers.slots == slots && !journal.is_closed()
 }
 
 /// Lets go of the journal, if one is open.
 fn is_ended(store: &mut Store) -> bool {
     match store.journal.take() {
         Some(journal) => {
-            store.disk = journal.into_disk();
+            store.disk = Some(journal.into_disk());
             true
         }
         None => false,
@@ -247,24 +244,18 @@ fn is_ended(store: &mut Store) -> bool {
 }
 
 fn is_so_of_journal(alloc: Global, journal: &mut Journal<Device>, act: &Act) -> bool {
-    match act {
-        Act::Checkpoints(answer) => is_checkpointed(journal, *answer),
-        Act::Holds(count, number) => holds(journal, *count, *number),
+    match *act {
+        Act::Checkpoints(answer) => is_same(journal.checkpoint(), answer),
+        Act::Holds(count, number) => {
+            journal.count() == count && hold_all(journal.state().values(), &[(0, number)])
+        }
         Act::HoldsAll(numbers) => hold_all(journal.state().values(), numbers),
         Act::HoldsNames(names) => are_spelled(journal.state().names(), names),
-        Act::HoldsRun(batches) => holds_run(journal, *batches),
-        Act::IsClosed(is_closed) => journal.is_closed() == *is_closed,
-        Act::FlushesRun(batches) => is_run_flushed(alloc, journal, *batches),
+        Act::HoldsRun(batches) => holds_run(journal, batches),
+        Act::IsClosed(is_closed) => journal.is_closed() == is_closed,
+        Act::FlushesRun(batches) => is_run_flushed(alloc, journal, batches),
         _ => is_flushed(alloc, journal, act),
     }
-}
-
-fn is_checkpointed(journal: &mut Journal<Device>, answer: Result<(), &str>) -> bool {
-    is_same(journal.checkpoint(), answer)
-}
-
-fn holds(journal: &Journal<Device>, count: u64, number: i64) -> bool {
-    journal.count() == count && hold_all(journal.state().values(), &[(0, number)])
 }
 
 fn hold_all(values: &[i64], numbers: &[(u16, i64)]) -> bool {
@@ -279,31 +270,40 @@ fn hold_all(values: &[i64], numbers: &[(u16, i64)]) -> bool {
 
 /// Whether a batch is flushed so.
 fn is_flushed(alloc: Global, journal: &mut Journal<Device>, act: &Act) -> bool {
-    match act {
-        Act::Flushes(number, answer) => {
-            is_same(flush(alloc, journal, &[(0, *number)], &[]), *answer)
-        }
+    match *act {
+        Act::Flushes(number, answer) => is_same(flush(alloc, journal, &[(0, number)]), answer),
         Act::FlushesTo(var, number, answer) => {
-            is_same(flush(alloc, journal, &[(*var, *number)], &[]), *answer)
+            is_same(flush(alloc, journal, &[(var, number)]), answer)
         }
         Act::FlushesBoth(one, other, number, answer) => {
-            let writes = [(*one, *number), (*other, *number)];
-            is_same(flush(alloc, journal, &writes, &[]), *answer)
+            is_same(
+                flush(alloc, journal, &[(one, number), (other, number)]),
+                answer,
+            )
         }
         Act::FlushesTwo(one, other, number, answer) => {
-            is_same(flush_two(alloc, journal, *one, *other, *number), *answer)
+            is_same(flush_two(alloc, journal, one, other, number), answer)
         }
-        Act::FlushesName(name, answer) => is_same(flush(alloc, journal, &[], &[*name]), *answer),
+        Act::FlushesName(name, answer) => is_same(flush_name(alloc, journal, name), answer),
         _ => false,
     }
 }
 
+/// Whether an act on images is answered so, or one on the device.
 fn is_so_of_device(alloc: Global, disk: &mut Device, act: &Act) -> bool {
-    match act {
-        Act::Makes(size) => is_made(alloc, disk, *size),
-        Act::MakesWith(size, parts) => is_made_with(alloc, disk, *size, parts),
+    match *act {
+        Act::Makes(size) => is_made(alloc, disk, size),
+        Act::MakesWith(size, parts) => is_made_with(alloc, disk, size, parts),
         Act::HoldsBytes(parts, changed) => is_content(alloc, disk, parts, changed),
-        _ => is_so_of_images(alloc, disk, act),
+        Act::Formats(vars, slots, answer) => is_same(format(disk, vars, slots), answer),
+        Act::Chooses(answer) => is_chosen(disk, answer),
+        Act::Puts(copy, generation, answer) => is_put(alloc, disk, copy, generation, answer),
+        Act::Loads(copy, answer) => is_loaded(alloc, disk, copy, answer),
+        _ => {
+            is_so_of_any(disk, act)
+                || is_so_of_counting(disk, act)
+                || is_so_of_power(&mut disk.inner, act)
+        }
     }
 }
 
@@ -351,19 +351,12 @@ fn is_content(
     let Ok(mut wanted) = made(alloc, disk.size()) else {
         return false;
     };
-    are_put(&mut wanted, parts)
-        && are_put(&mut wanted, changed)
-        && are_alike(alloc, disk, &mut wanted)
-}
-
-/// Whether two devices hold the same bytes.
-fn are_alike(alloc: Global, one: &mut Device, other: &mut Device) -> bool {
-    let Some(had) = content(alloc, one) else {
+    if !are_put(&mut wanted, parts) || !are_put(&mut wanted, changed) {
         return false;
-    };
-    match content(alloc, other) {
-        Some(wanted) => had == wanted,
-        None => false,
+    }
+    match (content(alloc, disk), content(alloc, &mut wanted)) {
+        (Some(had), Some(wanted)) => had == wanted,
+        _ => false,
     }
 }
 
@@ -389,13 +382,13 @@ pub(super) fn are_so<D: Disk>(disk: &mut D, acts: &[Act]) -> bool {
 }
 
 fn is_so_of_any<D: Disk>(disk: &mut D, act: &Act) -> bool {
-    match act {
-        Act::Size(size) => disk.size() == *size,
-        Act::Reads(at, wanted) => is_read(disk, *at, wanted),
-        Act::ReadFails(at, count) => is_not_read(disk, *at, *count),
-        Act::Writes(at, bytes) => matches!(write(disk, *at, bytes), Some(Ok(()))),
+    match *act {
+        Act::Size(size) => disk.size() == size,
+        Act::Reads(at, wanted) => is_read(disk, at, wanted),
+        Act::ReadFails(at, count) => is_not_read(disk, at, count),
+        Act::Writes(at, bytes) => matches!(write(disk, at, bytes), Some(Ok(()))),
         Act::WriteFails(at, bytes) => {
-            matches!(write(disk, *at, bytes), Some(Err(DeviceFault::Write)))
+            matches!(write(disk, at, bytes), Some(Err(DeviceFault::Write)))
         }
         Act::Syncs => matches!(disk.sync(), Ok(())),
         Act::SyncFails => matches!(disk.sync(), Err(DeviceFault::Sync)),
@@ -426,39 +419,34 @@ fn is_not_read<D: Disk>(disk: &mut D, at: u64, count: usize) -> bool {
 
 /// What a read answers, where it is within the device.
 fn read<D: Disk>(disk: &mut D, at: u64, into: &mut [u8]) -> Option<Result<(), DeviceFault>> {
-    if disk.size() < at.checked_add(into.len() as u64)? {
-        return None;
+    match at.checked_add(into.len() as u64) {
+        Some(end) if end <= disk.size() => Some(disk.read(at, into)),
+        _ => None,
     }
-    Some(disk.read(at, into))
 }
 
 /// What a write answers, where it is within the device.
 fn write<D: Disk>(disk: &mut D, at: u64, bytes: &[u8]) -> Option<Result<(), DeviceFault>> {
-    if disk.size() < at.checked_add(bytes.len() as u64)? {
-        return None;
+    match at.checked_add(bytes.len() as u64) {
+        Some(end) if end <= disk.size() => Some(disk.write_at(at, bytes)),
+        _ => None,
     }
-    Some(disk.write_at(at, bytes))
-}
-
-/// Whether its calls are answered so, were made so often, or fail so.
-fn is_so_of_calls(disk: &mut Device, act: &Act) -> bool {
-    is_so_of_any(disk, act) || is_so_of_counting(disk, act) || is_so_of_power(&mut disk.inner, act)
 }
 
 /// Whether it was called so often.
 fn is_so_of_counting(disk: &mut Device, act: &Act) -> bool {
-    match act {
+    match *act {
         Act::CountsAnew => {
             disk.count_anew();
             true
         }
-        Act::MadeBytes(bytes) => disk.calls.written == *bytes,
+        Act::MadeBytes(bytes) => disk.calls.written == bytes,
         Act::Wrote(writes) => disk.wrote(writes),
         Act::Made(reads, writes, syncs) => {
             let more = disk.calls.reads.checked_sub(disk.before.reads);
-            disk.calls.writes == *writes
-                && disk.calls.syncs == *syncs
-                && (reads.is_none() || *reads == more)
+            disk.calls.writes == writes
+                && disk.calls.syncs == syncs
+                && (reads.is_none() || reads == more)
         }
         _ => false,
     }
@@ -466,21 +454,16 @@ fn is_so_of_counting(disk: &mut Device, act: &Act) -> bool {
 
 /// Whether it fails and crashes so.
 fn is_so_of_power(disk: &mut SimDisk, act: &Act) -> bool {
-    match act {
-        Act::FailRead(k) => disk.fail_read(*k),
-        Act::FailWrite(k) => disk.fail_write(*k),
-        Act::FailSync(k) => disk.fail_sync(*k),
-        Act::StopAtWrite(k, fill) => disk.stop_at_write(*k, *fill),
-        Act::StopAtSync(k, fill) => disk.stop_at_sync(*k, *fill),
-        Act::StopAtPlace(at, fill) => disk.stop_at_place(*at, *fill),
-        Act::StopNow(fill) => disk.stop_now(*fill),
+    match *act {
+        Act::FailRead(k) => disk.fail_read(k),
+        Act::FailWrite(k) => disk.fail_write(k),
+        Act::FailSync(k) => disk.fail_sync(k),
+        Act::StopAtWrite(k, fill) => disk.stop_at_write(k, fill),
+        Act::StopAtSync(k, fill) => disk.stop_at_sync(k, fill),
+        Act::StopAtPlace(at, fill) => disk.stop_at_place(at, fill),
+        Act::StopNow(fill) => disk.stop_now(fill),
         Act::IsCrashed => return disk.is_crashed(),
-        Act::Restarts => {
-            if !disk.is_crashed() {
-                return false;
-            }
-            disk.restart();
-        }
+        Act::Restarts if disk.is_crashed() => disk.restart(),
         _ => return false,
     }
     true
@@ -565,39 +548,22 @@ static VALUES: [i64; 70] = [
 
 /// A state of 258 transactions with these values and two names.
 fn state(alloc: Global) -> Option<State> {
-    let names = two_names(alloc)?;
+    let Ok(mut names) = NameSet::new(alloc) else {
+        return None;
+    };
+    let (Ok(one), Ok(other)) = (Name::new("ab"), Name::new("b")) else {
+        return None;
+    };
+    if !names.push(&one) || !names.push(&other) {
+        return None;
+    }
     match Vec::from_slice(alloc, &VALUES) {
         Ok(values) => Some(State::of(258, names, values)),
         Err(_) => None,
     }
 }
 
-fn two_names(alloc: Global) -> Option<NameSet> {
-    let Ok(mut names) = NameSet::new(alloc) else {
-        return None;
-    };
-    match (Name::new("ab"), Name::new("b")) {
-        (Ok(one), Ok(other)) if names.push(&one) && names.push(&other) => Some(names),
-        _ => None,
-    }
-}
-
-/// Whether an act on images is answered so, or one on the calls of the device.
-fn is_so_of_images(alloc: Global, disk: &mut Device, act: &Act) -> bool {
-    match act {
-        Act::Formats(vars, slots, answer) => is_formatted(disk, *vars, *slots, *answer),
-        Act::Chooses(answer) => is_chosen(disk, *answer),
-        Act::Puts(copy, generation, answer) => is_put(alloc, disk, *copy, *generation, *answer),
-        Act::Loads(copy, answer) => is_loaded(alloc, disk, *copy, *answer),
-        _ => is_so_of_calls(disk, act),
-    }
-}
-
-fn is_formatted(disk: &mut Device, vars: u16, slots: u16, answer: Result<(), &str>) -> bool {
-    is_same(format(disk, vars, slots), answer)
-}
-
-fn is_chosen(disk: &mut Device, answer: Result<u8, &str>) -> bool {
+fn is_chosen(disk: &mut Device, answer: Result<u8, Refusal>) -> bool {
     match Layout::new(IMAGE_VARS, 2) {
         Ok(layout) => disk.size() >= layout.end() && is_same(choose(disk, layout), answer),
         Err(_) => false,
@@ -610,7 +576,7 @@ fn is_put(
     disk: &mut Device,
     copy: u8,
     generation: u64,
-    answer: Result<(), &str>,
+    answer: Result<(), Refusal>,
 ) -> bool {
     match state(alloc) {
         Some(state) => is_written(disk, copy, generation, &state, answer),
@@ -623,7 +589,7 @@ fn is_written(
     copy: u8,
     generation: u64,
     state: &State,
-    answer: Result<(), &str>,
+    answer: Result<(), Refusal>,
 ) -> bool {
     let Ok(layout) = Layout::new(IMAGE_VARS, 2) else {
         return false;
@@ -639,7 +605,7 @@ fn is_written(
 }
 
 /// Whether a copy is loaded so, and holds what it ought to.
-fn is_loaded(alloc: Global, disk: &mut Device, copy: u8, answer: Result<u64, &str>) -> bool {
+fn is_loaded(alloc: Global, disk: &mut Device, copy: u8, answer: Result<u64, Refusal>) -> bool {
     let Ok(layout) = Layout::new(IMAGE_VARS, 2) else {
         return false;
     };
@@ -670,46 +636,11 @@ fn is_of(state: &State, count: u64, names: &[&str], values: &[i64]) -> bool {
     state.count() == count && are_spelled(state.names(), names) && state.values() == values
 }
 
-/// Whether an answer is this one, where a refusal is known by its word.
-fn is_same<T: PartialEq + Drop>(had: Result<T, Fault>, wanted: Result<T, &str>) -> bool {
+/// Whether an answer is this one.
+fn is_same<T: PartialEq + Copy>(had: Result<T, Fault>, wanted: Result<T, Refusal>) -> bool {
     match (had, wanted) {
         (Ok(had), Ok(wanted)) => had == wanted,
-        (Err(fault), Err(wanted)) => word(fault) == wanted,
+        (Err(fault), Err(refusal)) => fault == refusal.fault(),
         _ => false,
     }
-}
-
-/// The word of a refusal.
-fn word(fault: Fault) -> &'static str {
-    match fault {
-        Fault::Device => "device",
-        Fault::Closed => "closed",
-        Fault::Unknown => "unknown",
-        Fault::LogFull => "logfull",
-        Fault::NotFormatted => "notformatted",
-        Fault::Damaged => "damaged",
-        Fault::Spent => "spent",
-        Fault::Geometry => "geometry",
-        _ => "another",
-    }
-}
-
-/// Whether these acts are so, and none of the others after them.
-pub(super) fn are_told_apart(alloc: Global, acts: &[Act], others: &[Act]) -> bool {
-    let Ok(disk) = made(alloc, 0) else {
-        return false;
-    };
-    let mut store = Store {
-        disk,
-        journal: None,
-    };
-    if differing_in(alloc, &mut store, acts).is_some() {
-        return false;
-    }
-    for act in others {
-        if is_so(alloc, &mut store, act) {
-            return false;
-        }
-    }
-    true
 }

@@ -56,21 +56,18 @@ struct Making<'a> {
     named: &'a [Act<'a>],
 }
 
-/// The path of a folder of this number in the system's folder for such files.
-fn numbered_folder(rt: HostRuntime, number: u16) -> Option<PathBuf> {
-    let Ok(name) = format!(in rt.alloc(); "tmem_file_test_{number}") else {
+/// A new folder, whose path was free, in the system's folder for such files.
+fn make_folder(rt: HostRuntime) -> Option<PathBuf> {
+    let Ok(temporary) = env::temp_dir(&rt) else {
         return None;
     };
-    match env::temp_dir(&rt) {
-        Ok(folder) => folder.join(rt.alloc(), name.as_str()).ok(),
-        Err(_) => None,
-    }
-}
-
-/// A new folder, whose path was free.
-fn make_folder(rt: HostRuntime) -> Option<PathBuf> {
-    for number in 0..1000 {
-        let folder = numbered_folder(rt, number)?;
+    for number in 0..1000u16 {
+        let Ok(name) = format!(in rt.alloc(); "tmem_file_test_{number}") else {
+            return None;
+        };
+        let Ok(folder) = temporary.join(rt.alloc(), name.as_str()) else {
+            return None;
+        };
         if fs::create_dir(&rt, folder.as_str()).is_ok() {
             return Some(folder);
         }
@@ -104,23 +101,19 @@ fn path_of<'a>(places: &'a Places, place: Place<'a>) -> &'a str {
     }
 }
 
-/// How many files are in a folder, or the greatest number where it is not read.
-fn files_in(rt: HostRuntime, folder: &str) -> u64 {
-    let Ok(entries) = fs::read_dir(&rt, folder) else {
-        return u64::MAX;
+/// Whether so many files are in the folder, and whether one of them is the store.
+fn stand(rt: HostRuntime, places: &Places, wanted: u64, is_there: bool) -> bool {
+    let Ok(entries) = fs::read_dir(&rt, places.folder.as_str()) else {
+        return false;
     };
     let mut count = 0u64;
     for entry in entries {
-        let more = if entry.is_ok() { 1 } else { u64::MAX };
-        count = count.saturating_add(more);
+        if entry.is_err() {
+            return false;
+        }
+        count = count.saturating_add(1);
     }
-    count
-}
-
-/// Whether so many files are in the folder, and whether one of them is the store.
-fn stand(rt: HostRuntime, places: &Places, count: u64, is_there: bool) -> bool {
-    files_in(rt, places.folder.as_str()) == count
-        && fs::exists(&rt, places.store.as_str()).ok() == Some(is_there)
+    count == wanted && fs::exists(&rt, places.store.as_str()).ok() == Some(is_there)
 }
 
 /// Whether another file may be made beside a new one, until that is named.
@@ -159,13 +152,13 @@ fn has(rt: HostRuntime, path: &str, bytes: &[u8]) -> bool {
 }
 
 fn is_done(rt: HostRuntime, places: &Places, step: &Step) -> bool {
-    match step {
-        Step::Stand(count, is_there) => stand(rt, places, *count, *is_there),
+    match *step {
+        Step::Stand(count, is_there) => stand(rt, places, count, is_there),
         Step::CreatesAnother => another_is_made(rt, places),
-        Step::OpensFile(most, acts) => is_opened(rt, places.store.as_str(), *most, acts),
-        Step::OpenFails(place) => open_fails(rt, path_of(places, *place)),
-        Step::CreateFails(place) => create_fails(rt, path_of(places, *place)),
-        Step::PutsBytes(bytes) => fs::write(&rt, places.store.as_str(), *bytes).is_ok(),
+        Step::OpensFile(most, acts) => is_opened(rt, places.store.as_str(), most, acts),
+        Step::OpenFails(place) => open_fails(rt, path_of(places, place)),
+        Step::CreateFails(place) => create_fails(rt, path_of(places, place)),
+        Step::PutsBytes(bytes) => fs::write(&rt, places.store.as_str(), bytes).is_ok(),
         Step::KeepsBytes(bytes) => has(rt, places.store.as_str(), bytes),
     }
 }
@@ -186,33 +179,27 @@ fn is_made(rt: HostRuntime, places: &Places, making: &Making) -> bool {
     };
     let was_so = are_so(&mut new.disk, making.new) && are_done(rt, places, making.beside);
     match new.give_name(&rt) {
-        Ok(disk) => was_so && making.is_named && is_named(rt, places, disk, making),
+        Ok(mut disk) => {
+            was_so
+                && making.is_named
+                && are_done(rt, places, making.behind)
+                && are_so(&mut disk, making.named)
+        }
         Err(fault) => was_so && !making.is_named && fault == Fault::Device,
     }
 }
 
-fn is_named(rt: HostRuntime, places: &Places, mut disk: FileDisk, making: &Making) -> bool {
-    are_done(rt, places, making.behind) && are_so(&mut disk, making.named)
-}
-
-fn are_made(rt: HostRuntime, places: &Places, makings: &[Making]) -> bool {
-    for making in makings {
-        if !is_made(rt, places, making) {
-            return false;
-        }
-    }
-    true
-}
-
 /// Whether this is done in a new folder, which is removed.
-fn is_well_done(rt: HostRuntime, makings: &[Making], steps: &[Step]) -> bool {
-    match make_places(rt) {
-        Some(places) => {
-            let is_so = are_made(rt, &places, makings) && are_done(rt, &places, steps);
-            fs::remove_dir_all(&rt, places.folder.as_str()).is_ok() && is_so
-        }
-        None => false,
-    }
+fn is_well_done(rt: HostRuntime, making: Option<&Making>, steps: &[Step]) -> bool {
+    let Some(places) = make_places(rt) else {
+        return false;
+    };
+    let was_so = match making {
+        Some(making) => is_made(rt, &places, making),
+        None => true,
+    };
+    let is_so = was_so && are_done(rt, &places, steps);
+    fs::remove_dir_all(&rt, places.folder.as_str()).is_ok() && is_so
 }
 
 /// What is done to a file that is new, to the same once it is named, and to it in another opening; and to one of no byte.
@@ -236,13 +223,13 @@ const IN_PART: &[Act<'static>] = &[Size(4096), Reads(4093, b"\0ab")];
 const EMPTY: &[Act<'static>] = &[Size(0)];
 
 // It is alone in the folder once it is named, and nobody else opens it while it is open.
-static NAMING: &[Making<'static>] = &[Making {
+static NAMING: Making<'static> = Making {
     new: NEW,
     beside: &[Step::CreatesAnother],
     is_named: true,
     behind: &[Step::Stand(1, true), Step::OpenFails(Place::Store)],
     named: NAMED,
-}];
+};
 
 // The first bytes of it alone are found where no more are asked for.
 static OPENINGS: &[Step<'static>] = &[
@@ -253,12 +240,12 @@ static OPENINGS: &[Step<'static>] = &[
 
 #[test]
 fn a_named_file_is_read_by_the_next_opening(rt: HostRuntime) {
-    assert!(rt; is_well_done(rt, NAMING, OPENINGS));
+    assert!(rt; is_well_done(rt, Some(&NAMING), OPENINGS));
 }
 
 #[test]
 fn a_step_that_is_not_so_is_seen(rt: HostRuntime) {
-    assert!(rt; !is_well_done(rt, &[], &[Step::Stand(1, true)]));
+    assert!(rt; !is_well_done(rt, None, &[Step::Stand(1, true)]));
 }
 
 // An empty file is none of them.
@@ -279,21 +266,21 @@ static REFUSALS: &[Step<'static>] = &[
 
 #[test]
 fn refuses_what_is_no_file(rt: HostRuntime) {
-    assert!(rt; is_well_done(rt, &[], REFUSALS));
+    assert!(rt; is_well_done(rt, None, REFUSALS));
 }
 
 // The name is taken before a new file is named, which is refused then.
-static LATE: &[Making<'static>] = &[Making {
+static LATE: Making<'static> = Making {
     new: &[],
     beside: &[Step::PutsBytes(b"kept"), Step::CreateFails(Place::Store)],
     is_named: false,
     behind: &[],
     named: &[],
-}];
+};
 
 static KEPT: &[Step<'static>] = &[Step::KeepsBytes(b"kept"), Step::Stand(1, true)];
 
 #[test]
 fn never_takes_a_name_from_a_file(rt: HostRuntime) {
-    assert!(rt; is_well_done(rt, LATE, KEPT));
+    assert!(rt; is_well_done(rt, Some(&LATE), KEPT));
 }

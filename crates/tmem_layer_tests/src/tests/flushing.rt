@@ -12,14 +12,25 @@ use tmem_fault::Fault;
 use tmem_journal::Journal;
 use tmem_state::Batch;
 
-/// Flushes one record of these writes and checks. `Full` where there is none that may be flushed.
+/// Flushes one record of these writes. `Full` where there is none that may be flushed.
 pub(super) fn flush<D: Disk>(
     alloc: Global,
     journal: &mut Journal<D>,
     writes: &[(u16, i64)],
-    checks: &[&str],
 ) -> Result<u64, Fault> {
-    match effect_of(writes, checks, &[]) {
+    match effect_of(writes, &[], &[]) {
+        Some(made) => flush_effect(alloc, journal, &made.effect),
+        None => Err(Fault::Full),
+    }
+}
+
+/// Flushes one record that checks this name and writes nothing. `Full` where it is no name.
+pub(super) fn flush_name<D: Disk>(
+    alloc: Global,
+    journal: &mut Journal<D>,
+    name: &str,
+) -> Result<u64, Fault> {
+    match effect_of(&[], &[name], &[]) {
         Some(made) => flush_effect(alloc, journal, &made.effect),
         None => Err(Fault::Full),
     }
@@ -162,8 +173,8 @@ pub(super) fn is_run_flushed<D: Disk>(
 
 fn is_flushed_of_run<D: Disk>(alloc: Global, journal: &mut Journal<D>, batch: u16) -> bool {
     let write = [(run_var(batch), run_number(batch))];
-    let flushed = match flush(alloc, journal, &write, &[]) {
-        Err(Fault::LogFull) if journal.checkpoint().is_ok() => flush(alloc, journal, &write, &[]),
+    let flushed = match flush(alloc, journal, &write) {
+        Err(Fault::LogFull) if journal.checkpoint().is_ok() => flush(alloc, journal, &write),
         answer => answer,
     };
     flushed == Ok(u64::from(batch) + 1)

@@ -8,6 +8,7 @@ use super::acts::Act::{
     FlushesTwo, Formats, HoldsAll, HoldsNames, HoldsRun, Made, MadeBytes, Makes, Opens, Row, Wrote,
 };
 use super::acts::{Act, play};
+use super::refusals::Refusal::LogFull;
 
 static PAGES: &[Act<'static>] = &[
     Case("a checkpoint writes the pages that may differ in its copy, and the header"),
@@ -106,7 +107,7 @@ static PAGES: &[Act<'static>] = &[
     Checkpoints(Ok(())),
     FlushesTo(63, 1, Ok(1)),
     FlushesTo(63, 2, Ok(2)),
-    FlushesTo(64, 3, Err("logfull")),
+    FlushesTo(64, 3, Err(LogFull)),
     Checkpoints(Ok(())),
     Closes,
     Wrote(&[

@@ -7,6 +7,7 @@ use super::acts::Act::{
     Made, MakesWith, Opens, Reads, Row, Writes, Wrote,
 };
 use super::acts::{Act, play};
+use super::refusals::Refusal::{Damaged, Spent};
 
 /// A store that was formatted.
 const FRESH: &[(u64, &[u8])] = &[
@@ -277,26 +278,26 @@ static BEHIND: &[Act<'static>] = &[
     Row,
     Writes(513, &[0xFF, 0xFF, 0xFF, 0xFF, 0xFF, 0xFF, 0xFF, 0xFF]),
     CountsAnew,
-    Opens(4, 4, Err("spent")),
+    Opens(4, 4, Err(Spent)),
     Made(None, 0, 1),
-    Opens(4, 4, Err("spent")),
+    Opens(4, 4, Err(Spent)),
     // a stale gate behind the log is closed first
     Row,
     Writes(513, &[0xFF, 0xFF, 0xFF, 0xFF, 0xFF, 0xFF, 0xFF, 0xFF]),
     Writes(13824, &[0xA5, 1]),
     CountsAnew,
-    Opens(4, 4, Err("spent")),
+    Opens(4, 4, Err(Spent)),
     Made(None, 1, 2),
     Reads(13824, &[0, 1]),
     // what is damaged is so at the last generation too
     Row,
     Writes(513, &[0xFF, 0xFF, 0xFF, 0xFF, 0xFF, 0xFF, 0xFF, 0xFF]),
     Writes(5, &[2]),
-    Opens(4, 4, Err("damaged")),
+    Opens(4, 4, Err(Damaged)),
     Row,
     Writes(513, &[0xFE, 0xFF, 0xFF, 0xFF, 0xFF, 0xFF, 0xFF, 0xFF]),
     Opens(4, 4, Ok(0)),
-    Checkpoints(Err("spent")),
+    Checkpoints(Err(Spent)),
     Closes,
     Reads(3073, &[0xFF, 0xFF, 0xFF, 0xFF, 0xFF, 0xFF, 0xFF, 0xFF]),
 ];

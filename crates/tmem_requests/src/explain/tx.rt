@@ -105,7 +105,10 @@ fn find_in_leaf(alloc: Global, key: &str, body: &Value) -> Result<(), WrongValue
     ensures { IfErr result (λ w. IsTrueOf part (tagged key.now (view body.now)) w) }
 {
     match key {
-        "put" => inside(PointerStep::Key("put"), find_in_put(alloc, body)),
+        "put" => inside(
+            PointerStep::Key("put"),
+            find_in_two(alloc, NumberKind::Register, NumberKind::Integer, body),
+        ),
         "read" => inside(PointerStep::Key("read"), find_in_access(alloc, body)),
         "write" => inside(PointerStep::Key("write"), find_in_access(alloc, body)),
         "step" => inside(PointerStep::Key("step"), find_in_step(alloc, body)),
@@ -114,13 +117,6 @@ fn find_in_leaf(alloc: Global, key: &str, body: &Value) -> Result<(), WrongValue
         "retire" => inside(PointerStep::Key("retire"), find_in_word(alloc, body)),
         _ => Err(WrongValue::here(alloc, RequestFlaw::NotTransaction)),
     }
-}
-
-// The same with a register and its number.
-fn find_in_put(alloc: Global, body: &Value) -> Result<(), WrongValue>
-    ensures { IfErr result (λ w. IsTrueOf part (view body.now) w) }
-{
-    find_in_two(alloc, NumberKind::Register, NumberKind::Integer, body)
 }
 
 // The same with a variable and a register.

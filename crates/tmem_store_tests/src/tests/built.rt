@@ -88,17 +88,12 @@ impl Built {
 }
 
 fn moves(alloc: Global, from: u16, to: u16, n: i64) -> Result<Tx, AllocError> {
-    let mut parts = Vec::new(alloc);
-    parts.push(take(alloc, from, n)?)?;
-    parts.push(add_to(alloc, to, n)?)?;
+    let parts = vec![in alloc; take(alloc, from, n)?, add_to(alloc, to, n)?]?;
     Ok(all_of(parts))
 }
 
 fn takes_or_puts_or(alloc: Global, n: i64) -> Result<Tx, AllocError> {
-    let mut alternatives = Vec::new(alloc);
-    alternatives.push(take(alloc, 0, 1)?)?;
-    alternatives.push(put(alloc, 2, n)?)?;
-    alternatives.push(put(alloc, 2, 1)?)?;
+    let alternatives = vec![in alloc; take(alloc, 0, 1)?, put(alloc, 2, n)?, put(alloc, 2, 1)?]?;
     first_of_several(alloc, alternatives)
 }
 

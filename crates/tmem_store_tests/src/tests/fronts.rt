@@ -239,25 +239,7 @@ fn end_where(is_so: bool, end: Ends) -> Ends {
     if is_so { end } else { Ends::Otherwise }
 }
 
-/// The value that is told alone, of variable 0.
-fn first_alone(told: Option<Vec<(u16, i64)>>) -> Option<i64> {
-    let values = told?;
-    if values.len() == 1 && values[0].0 == 0 {
-        Some(values[0].1)
-    } else {
-        None
-    }
-}
-
-/// The same, if it was told.
-fn told_alone(told: Result<Option<Vec<(u16, i64)>>, Fault>) -> Result<Option<i64>, Fault> {
-    match told {
-        Ok(told) => Ok(first_alone(told)),
-        Err(fault) => Err(fault),
-    }
-}
-
-/// The value of variable 0 by which the invariant refuses a plan, or an attempt at one, where it does.
+/// The value of variable 0 by which the invariant refuses a plan, or an attempt at one, where that is told alone.
 fn why_of<C: Asks, R: Wait>(
     rt: &R,
     alloc: Global,
@@ -266,7 +248,14 @@ fn why_of<C: Asks, R: Wait>(
 ) -> Result<Option<i64>, Fault> {
     let tx = asked.tx(alloc)?;
     let name = names()[0];
-    told_alone(caller.why_refused(rt, tx, asked, &name))
+    let Some(values) = caller.why_refused(rt, tx, asked, &name)? else {
+        return Ok(None);
+    };
+    if values.len() == 1 && values[0].0 == 0 {
+        Ok(Some(values[0].1))
+    } else {
+        Ok(None)
+    }
 }
 
 fn must_be(rt: &impl Abort, asked: Asked, had: Option<i64>, want: Option<i64>) {

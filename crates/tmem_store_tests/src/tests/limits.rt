@@ -80,9 +80,9 @@ static SCENES: &[Line<'static>] = &[
     Last(Release, Done),
     Scene("a thread that is woken sleeps for what is left"),
     ClockStands,
-    First(CommitWithin(Task::NeedOne, 2000), Retried),
+    First(CommitWithin(Task::NeedOne, 20_000), Retried),
     Last(AwaitTries(1), Done),
-    Last(Advance(1900), Done),
+    Last(Advance(19_900), Done),
     Last(TryCommit(Task::Write(2, 0)), Committed(0)),
     // it tries again ten times a second
     Last(AwaitTries(12), Done),

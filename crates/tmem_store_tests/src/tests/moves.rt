@@ -266,10 +266,7 @@ fn long(alloc: Global, tx: Result<Tx, AllocError>) -> Result<Tx, AllocError> {
 
 // One behind the other.
 fn both(alloc: Global, first: &[Node], second: &[Node]) -> Result<Tx, AllocError> {
-    let mut txs = Vec::new(alloc);
-    txs.push(seq(alloc, first)?)?;
-    txs.push(seq(alloc, second)?)?;
-    Ok(Tx::Seq(txs))
+    Ok(Tx::Seq(vec![in alloc; seq(alloc, first)?, seq(alloc, second)?]?))
 }
 
 // The second where the first retries.

@@ -1,9 +1,9 @@
 //! Passes that callers share.
 use super::moves::Answer::{Committed, Done, Holds, Late, Number, Refused, Value};
 use super::moves::Move::{
-    Acquire, AcquireWithin, Await, AwaitHeld, AwaitTries, AwaitValue, Checkpoint, Close, Commit,
-    Flush, HoldSteps, Look, NewPass, NewPasses, OtherPass, Peek, Release, ReleasePass, Seen, Shut,
-    Sleep, TriesAtMost, TryCommit,
+    Acquire, AcquireWithin, AwaitHeld, AwaitTries, AwaitValue, AwaitWithin, Checkpoint, Close,
+    Commit, Flush, HoldSteps, Look, NewPass, NewPasses, OtherPass, Peek, Release, ReleasePass,
+    Seen, Shut, Sleep, TriesAtMost, TryCommit,
 };
 use super::moves::{Answer, Refusal, Task};
 use super::scenes::Line::{
@@ -129,7 +129,7 @@ static SCENES: &[Line<'static>] = &[
     Third(AwaitValue(1, 1), Done),
     Third(AcquireWithin(LONG), CLOSED),
     Last(AwaitTries(2), Done),
-    Last(Await(0), Done),
+    Last(AwaitWithin(0, LONG), Done),
     // nothing waits to be durable
     Last(Close, Done),
     Scene("a checkpoint ends no wait for a pass"),

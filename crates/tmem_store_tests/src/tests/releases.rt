@@ -34,9 +34,13 @@ fn begin_on<T: Invariants + Drop, S: StoredSteps + Drop>(
     table: T,
     steps: S,
 ) -> Result<SimDisk, Fault> {
-    let mut world = opened(alloc, table, steps)?;
-    play_first(rt, alloc, &mut world)?;
-    Ok(world.into_disk())
+    match opened(alloc, table, steps) {
+        Ok(mut world) => {
+            play_first(rt, alloc, &mut world)?;
+            Ok(world.into_disk())
+        }
+        Err(fault) => Err(fault),
+    }
 }
 
 /// Plays it in this world.

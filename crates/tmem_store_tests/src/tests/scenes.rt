@@ -52,8 +52,8 @@ pub(super) enum Line<'a> {
     LastImage,
     /// What one thread does before the others start, and what that has to be answered.
     Before(Move, Answer),
-    /// What one of eight threads does, which play at once. The last one waits for no other thread, or only where a wrong body may hang:
-    /// it waits until the others have ended, and where they have not in ten seconds it shuts the front until they do.
+    /// What one of eight threads does, which play at once. The last one waits for others no longer than a time. At its end it waits until
+    /// they have ended, and where they have not in ten seconds it shuts the front until they do.
     First(Move, Answer),
     Second(Move, Answer),
     Third(Move, Answer),

@@ -10,24 +10,24 @@ use std::time::Duration;
 #[derive(Drop)]
 pub(super) struct Skipping<'a, R> {
     rt: &'a R,
-    time: Option<&'a Signals>,
+    standing: Option<&'a Signals>,
     skip: Duration,
     most: u64,
     readings: AtomicU64,
 }
 
 impl<'a, R> Skipping<'a, R> {
-    /// It was not read yet. It stands still where these signals say what it shows.
+    /// It was not read yet. Where it is given signals, it stands still, and shows their time.
     pub(super) fn new(
         rt: &'a R,
-        time: Option<&'a Signals>,
+        standing: Option<&'a Signals>,
         skip: Duration,
         most: u64,
     ) -> Skipping<'a, R> {
         let readings = AtomicU64::new(0);
         Skipping {
             rt,
-            time,
+            standing,
             skip,
             most,
             readings,
@@ -43,7 +43,7 @@ impl<R: Clock> Clock for Skipping<'_, R> {
         if reading >= self.most {
             return Err(io::Error::from(io::ErrorKind::Other));
         }
-        if let Some(signals) = self.time {
+        if let Some(signals) = self.standing {
             return Ok(signals.time());
         }
         let times = u32::try_from(reading).unwrap_or(u32::MAX);

@@ -26,12 +26,12 @@ pub(super) struct Stage<'a, R> {
 impl<'a, R> Stage<'a, R> {
     /// The clock of a wait that has a limit.
     pub(super) fn clock(&self) -> Skipping<'a, R> {
-        let time = if self.stands {
+        let standing = if self.stands {
             Some(self.signals)
         } else {
             None
         };
-        Skipping::new(self.rt, time, self.skip, self.readings)
+        Skipping::new(self.rt, standing, self.skip, self.readings)
     }
 }
 

@@ -1,5 +1,5 @@
 //! The calls of a front by one caller, with what it has in hand.
-ghost use Rattle.std.specs.Prelude.{◌≡◌, ◌<◌, length, IfOk};
+ghost use Rattle.std.specs.Prelude.{◌≡◌, ◌<◌, length};
 ghost use Rattle.std.proofs.Props.{props};
 ghost use Rattle.tmem_tentative.specs.CursorFacts.{IsEndingFor-prop};
 ghost use Rattle.tmem_tentative.specs.Fits.{IsForVariables, IsForNames};
@@ -183,8 +183,9 @@ impl<D: Disk + Drop, N: StoreNaming, T: Invariants + Drop, S: StoredSteps + Drop
         call: Call,
         limit: Duration,
     ) -> Result<Settled, Fault> {
+        let plan = self.front.plan(tx)?;
         match &mut self.hands.pass {
-            Some(pass) => settled(self.front, rt, pass, tx, call, limit),
+            Some(pass) => settled_by(self.front, rt, pass, &plan, call, limit),
             None => Err(Fault::NoSeat),
         }
     }
@@ -197,7 +198,8 @@ impl<D: Disk + Drop, N: StoreNaming, T: Invariants + Drop, S: StoredSteps + Drop
     }
 
     fn keep_attempt<R: Wait>(&mut self, rt: &R, tx: Tx) -> Result<(), Fault> {
-        let attempt = attempt_at(self.front, rt, tx)?;
+        let plan = self.front.plan(tx)?;
+        let attempt = self.front.attempt(rt, &plan)?;
         self.hands.kept = Some(Kept {
             attempt,
             of: PhantomData,
@@ -230,8 +232,17 @@ impl<D: Disk + Drop, N: StoreNaming, T: Invariants + Drop, S: StoredSteps + Drop
     fn call_by_hand<R: Wait>(&mut self, rt: &R, step: Move) -> Answer {
         match step {
             Move::Settle => settle_kept(self.front, rt, &mut self.hands),
-            Move::Acquire => Answer::done(acquire(self.front, rt, &mut self.hands.pass)),
-            Move::ReleasePass => release(self.front, rt, &mut self.hands.pass),
+            Move::Acquire => match self.front.acquire_pass(rt) {
+                Ok(pass) => {
+                    self.hands.pass = Some(pass);
+                    Answer::Done
+                }
+                Err(fault) => Answer::refused(fault),
+            },
+            Move::ReleasePass => match self.hands.pass.take() {
+                Some(pass) => Answer::done(self.front.release_pass(rt, pass)),
+                None => Answer::Nothing,
+            },
             Move::OtherPass => Answer::done(other_pass(self.front, rt, &mut self.hands)),
             _ => Answer::Nothing,
         }
@@ -254,9 +265,16 @@ impl<D: Disk + Drop, N: StoreNaming, T: Invariants + Drop, S: StoredSteps + Drop
         asked: Asked,
         name: &Name,
     ) -> Result<Option<Vec<(u16, i64)>>, Fault> {
-        match &mut self.hands.pass {
-            Some(pass) => why(self.front, rt, pass, tx, asked, name),
-            None => Err(Fault::NoSeat),
+        let plan = self.front.plan(tx)?;
+        let Some(pass) = &mut self.hands.pass else {
+            return Err(Fault::NoSeat);
+        };
+        match asked {
+            Asked::ByAttempt(_) => {
+                let attempt = self.front.attempt(rt, &plan)?;
+                self.front.why_attempt_refused(rt, pass, &attempt, name)
+            }
+            _ => self.front.why_refused(rt, pass, &plan, name),
         }
     }
 }
@@ -275,27 +293,6 @@ fn settle_kept<
     }
 }
 
-// Takes a pass of the pool in place of what is there.
-fn acquire<D: Disk + Drop, N: StoreNaming, T: Invariants + Drop, S: StoredSteps + Drop, R: Wait>(
-    front: &Front<D, N, T, S>,
-    rt: &R,
-    place: &mut Option<Pass<N>>,
-) -> Result<(), Fault> {
-    *place = Some(front.acquire_pass(rt)?);
-    Ok(())
-}
-
-fn release<D: Disk + Drop, N: StoreNaming, T: Invariants + Drop, S: StoredSteps + Drop, R: Wait>(
-    front: &Front<D, N, T, S>,
-    rt: &R,
-    place: &mut Option<Pass<N>>,
-) -> Answer {
-    match place.take() {
-        Some(pass) => Answer::done(front.release_pass(rt, pass)),
-        None => Answer::Nothing,
-    }
-}
-
 fn other_pass<D: Disk + Drop, N: StoreNaming, T: Invariants + Drop, S: StoredSteps + Drop, R: Wait>(
     front: &Front<D, N, T, S>,
     rt: &R,
@@ -308,28 +305,7 @@ fn other_pass<D: Disk + Drop, N: StoreNaming, T: Invariants + Drop, S: StoredSte
     Ok(())
 }
 
-// Settles a transaction by a call.
-fn settled<
-    D: Disk + Drop,
-    N: StoreNaming,
-    T: Invariants + Drop,
-    S: StoredSteps + Drop,
-    R: Clock + Wait,
->(
-    front: &Front<D, N, T, S>,
-    rt: &R,
-    pass: &mut Pass<N>,
-    tx: Tx,
-    call: Call,
-    limit: Duration,
-) -> Result<Settled, Fault> {
-    match front.plan(tx) {
-        Ok(plan) => settled_by(front, rt, pass, &plan, call, limit),
-        Err(fault) => Err(fault),
-    }
-}
-
-// The same for its plan.
+// Settles a plan by a call.
 fn settled_by<
     D: Disk + Drop,
     N: StoreNaming,
@@ -377,68 +353,6 @@ fn attempt_and_settle<
     }
 }
 
-// An attempt at a transaction.
-fn attempt_at<D: Disk + Drop, N: StoreNaming, T: Invariants + Drop, S: StoredSteps + Drop, R: Wait>(
-    front: &Front<D, N, T, S>,
-    rt: &R,
-    tx: Tx,
-) -> Result<Attempt, Fault>
-    ensures variables { IfOk result (IsForVariables (length N.opening.values)) }
-    ensures names { IfOk result (IsForNames N.program.names) }
-{
-    match front.plan(tx) {
-        Ok(plan) => front.attempt(rt, &plan),
-        Err(fault) => Err(fault),
-    }
-}
-
-// Why an invariant refuses a transaction, or an attempt at one.
-fn why<D: Disk + Drop, N: StoreNaming, T: Invariants + Drop, S: StoredSteps + Drop, R: Wait>(
-    front: &Front<D, N, T, S>,
-    rt: &R,
-    pass: &mut Pass<N>,
-    tx: Tx,
-    asked: Asked,
-    name: &Name,
-) -> Result<Option<Vec<(u16, i64)>>, Fault> {
-    match asked {
-        Asked::ByAttempt(_) => why_attempt(front, rt, pass, tx, name),
-        _ => why_plan(front, rt, pass, tx, name),
-    }
-}
-
-fn why_plan<D: Disk + Drop, N: StoreNaming, T: Invariants + Drop, S: StoredSteps + Drop, R: Wait>(
-    front: &Front<D, N, T, S>,
-    rt: &R,
-    pass: &mut Pass<N>,
-    tx: Tx,
-    name: &Name,
-) -> Result<Option<Vec<(u16, i64)>>, Fault> {
-    match front.plan(tx) {
-        Ok(plan) => front.why_refused(rt, pass, &plan, name),
-        Err(fault) => Err(fault),
-    }
-}
-
-fn why_attempt<
-    D: Disk + Drop,
-    N: StoreNaming,
-    T: Invariants + Drop,
-    S: StoredSteps + Drop,
-    R: Wait,
->(
-    front: &Front<D, N, T, S>,
-    rt: &R,
-    pass: &mut Pass<N>,
-    tx: Tx,
-    name: &Name,
-) -> Result<Option<Vec<(u16, i64)>>, Fault> {
-    match attempt_at(front, rt, tx) {
-        Ok(attempt) => front.why_attempt_refused(rt, pass, &attempt, name),
-        Err(fault) => Err(fault),
-    }
-}
-
 // Plays a move that is one call by a pass.
 fn call_by<
     D: Disk + Drop,
@@ -449,45 +363,24 @@ fn call_by<
 >(front: &Front<D, N, T, S>, stage: &Stage<R>, pass: &mut Pass<N>, step: Move) -> Answer {
     match step {
         Move::Await(number) => Answer::done(front.await_durable(stage.rt, pass, number)),
-        Move::AwaitWithin(number, millis) => await_within(front, stage, pass, number, millis),
+        Move::AwaitWithin(number, millis) => {
+            let rt = stage.clock();
+            Answer::awaited(front.await_durable_within(&rt, pass, number, limit_of(millis)))
+        }
         Move::FlushAll => Answer::number(front.flush_all(stage.rt, pass)),
         Move::Look => Answer::Number(front.look(pass)),
         Move::Seen => Answer::Number(pass.seen()),
-        Move::Vouch(number) => vouch(front, stage, pass, number),
+        // only a number that the pass saw is vouched for
+        Move::Vouch(number) => {
+            if number < pass.seen() {
+                Answer::Number(front.vouch(stage.rt, pass, number))
+            } else {
+                Answer::Nothing
+            }
+        }
         Move::Count => Answer::Number(front.count(stage.rt, pass)),
         Move::HasInvariant => Answer::Holds(front.has(stage.rt, pass, &always())),
         other => call_alone(front, stage, other),
-    }
-}
-
-fn await_within<
-    D: Disk + Drop,
-    N: StoreNaming,
-    T: Invariants + Drop,
-    S: StoredSteps + Drop,
-    R: Clock + Wait,
->(
-    front: &Front<D, N, T, S>,
-    stage: &Stage<R>,
-    pass: &mut Pass<N>,
-    number: u64,
-    millis: u64,
-) -> Answer {
-    let rt = stage.clock();
-    Answer::awaited(front.await_durable_within(&rt, pass, number, limit_of(millis)))
-}
-
-// Only a number that the pass saw is vouched for.
-fn vouch<D: Disk + Drop, N: StoreNaming, T: Invariants + Drop, S: StoredSteps + Drop, R: Wait>(
-    front: &Front<D, N, T, S>,
-    stage: &Stage<R>,
-    pass: &mut Pass<N>,
-    number: u64,
-) -> Answer {
-    if number < pass.seen() {
-        Answer::Number(front.vouch(stage.rt, pass, number))
-    } else {
-        Answer::Nothing
     }
 }
 

@@ -55,15 +55,21 @@ fn turns_of_new_store<T: Invariants + Drop, S: StoredSteps + Drop>(
     table: T,
     steps: S,
 ) -> Result<u32, Fault> {
-    let mut world = opened(alloc, table, steps)?;
-    committed_after(alloc, &mut world)
+    match opened(alloc, table, steps) {
+        Ok(mut world) => committed_after(alloc, &mut world),
+        Err(fault) => Err(fault),
+    }
 }
 
 /// Whether the shapes of a table are those of the eight invariants.
 fn has_eight_shapes<T: Invariants>(alloc: Global, table: &T) -> Result<bool, Fault> {
-    let shapes = shapes_of(alloc, table)?;
+    are_of_eight(&shapes_of(alloc, table)?)
+}
+
+/// Whether shapes are those.
+fn are_of_eight(shapes: &[Shape]) -> Result<bool, Fault> {
     let mut n = 0u8;
-    for shape in &shapes {
+    for shape in shapes {
         if n > 7 || !is_shape_of(shape, n)? {
             return Ok(false);
         }

@@ -1,4 +1,4 @@
 use Rattle.tmem_caller.proofs.refusals.without.call_on_test.Goals as goal
 
-pub new-requires-clause-stated : goal.new-requires-clause-stated
-new-requires-clause-stated g c = rw c.requires.footprint c.requires.stated
+pub new-requires-2-clause-stated : goal.new-requires-2-clause-stated
+new-requires-2-clause-stated g c = rw c.requires.footprint c.requires.stated

@@ -9,11 +9,11 @@ returns-in-Limits-clause-writes g c = λ plain ok.
 
 pub returns-in-Other-clause-writes : goal.returns-in-Other-clause-writes
 returns-in-Other-clause-writes g c = λ plain ok.
-    subst (λ it. HasWritten g.W.Write.write_str_gives c.args.f.now (numbers_help it) c.write_other.new.f) (sym c.in-Other.is) (c.write_other.ensures plain ok)
+    subst (λ it. HasWritten g.W.Write.write_str_gives c.args.f.now (numbers_help it) c.write-in-Other.new.self) (sym c.in-Other.is) (c.write-in-Other.ensures.writes plain ok)
 
 pub returns-in-Short-clause-writes : goal.returns-in-Short-clause-writes
 returns-in-Short-clause-writes g c = λ plain ok.
-    subst (λ it. HasWritten g.W.Write.write_str_gives c.args.f.now (numbers_help it) c.write_short.new.f) (sym c.in-Short.is) (c.write_short.ensures plain ok)
+    subst (λ it. HasWritten g.W.Write.write_str_gives c.args.f.now (numbers_help it) c.write-in-Short.new.self) (sym c.in-Short.is) (c.write-in-Short.ensures.writes plain ok)
 
 pub returns-in-NoRoom-clause-writes : goal.returns-in-NoRoom-clause-writes
 returns-in-NoRoom-clause-writes g c = λ plain ok.

@@ -9,7 +9,7 @@ use Rattle.tmem_requests.proofs.place.RequestPlaceDisplay.fmt.Goals as goal
 pub loop-step-preserved : goal.loop-step-preserved
 loop-step-preserved g c = λ plain.
     let was = c.loop-step.invariant plain in
-    put_two _ _ _ _ _ _ _ was (c.in_ok-write-in-Pointer.ensures.writes was.plain refl) (joined_more step_text c.deref-step-items.result.now c.loop-step.step-index _ c.loop-step-test.true)
+    put_two _ _ _ _ _ _ _ was (c.in_ok-fmt-in-Pointer.ensures.writes was.plain refl) (joined_more step_text c.deref-step-items.result.now c.loop-step.step-index _ c.loop-step-test.true)
 
 pub returns-after-loop-step-clause-writes : goal.returns-after-loop-step-clause-writes
 returns-after-loop-step-clause-writes g c = λ plain ok.

@@ -1,5 +1,5 @@
 use Rattle.tmem_caller.specs.Serving.{solvent}
-use Rattle.tmem_caller.proofs.serving.store.serve_whole.Given as goal
+use Rattle.tmem_caller.proofs.serving.store.serve_row.Given as goal
 
 -- what the store is made with
 abbrev pub ghost-serve_store : goal.ghost-serve_store
