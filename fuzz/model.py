@@ -297,27 +297,27 @@ class Run:
         ((key, body),) = entry.items()
         return getattr(self, key)(*(body if key == "begin" else [body]))
 
-    def begin(self, slot, tx):
+    def begin(self, index, tx):
         cause = cause_of(tx, self.layout.vars)
         if cause:
             return f"fault 12 badplan {cause}"
-        self.attempts[slot] = Attempt(tx)
+        self.attempts[index] = Attempt(tx)
         return "begun"
 
-    def turn(self, slot):
-        if slot not in self.attempts:
+    def turn(self, index):
+        if index not in self.attempts:
             return "idle"
-        return self.attempts[slot].turn(self.values)
+        return self.attempts[index].turn(self.values)
 
-    def settle(self, slot):
-        attempt = self.attempts.get(slot)
+    def settle(self, index):
+        attempt = self.attempts.get(index)
         if attempt is None or attempt.ending is None:
             return "idle"
         if any(self.values[var] != value for var, value in attempt.reads.items()):
             return "fault 7 conflict"
         line = self.settled(attempt)
         if not line.startswith("fault"):
-            del self.attempts[slot]
+            del self.attempts[index]
         return line
 
     def settled(self, attempt):

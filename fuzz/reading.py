@@ -93,11 +93,11 @@ def check_entry(value):
     key, body = member(value)
     want(key in ("begin", "turn", "settle"))
     if key == "begin":
-        slot, tx = items(body, 2)
+        index, tx = items(body, 2)
         check_tx(tx)
     else:
-        slot = body
-    return natural(slot, 15)
+        index = body
+    return natural(index, 15)
 
 
 def check_tx(value):

@@ -6,7 +6,7 @@ use Rattle.std.proofs.lemmas.List.{length-map}
 use Rattle.std.proofs.Math.Nat.{not-suc-le-zero, suc-le-suc_iff, zero-lt-suc}
 use Rattle.std.proofs.Math.ListN.{get_or-map}
 use Rattle.tmem_invariants.specs.Answers.{Gives, IsMeant}
-use Rattle.tmem_invariants.specs.Chosen.{meaning_also}
+use Rattle.tmem_invariants.specs.Joined.{meaning_also}
 use Rattle.tmem_invariants.specs.Meanings.{Meanings}
 use Rattle.tmem_invariants.specs.TableNames.{AreDistinct}
 use Rattle.tmem_tables.specs.Sums.{IsAnswerOfSum, is_sum_within}

@@ -3,7 +3,7 @@ use Rattle.std.specs.Prelude.{ℕ, true, List, [], ◌∷◌, Option, map}
 use Rattle.std.specs.Io.KnownBytes.{IsAtEnd}
 use Rattle.tmem_core.specs.Program.{Program}
 use Rattle.tmem_invariants.specs.Meanings.{Meanings}
-use Rattle.tmem_invariants.specs.Chosen.{meaning_also}
+use Rattle.tmem_invariants.specs.Joined.{meaning_also}
 use Rattle.tmem_tables.specs.Sums.{is_sum_within}
 use Rattle.tmem_tables.specs.declared.linear.Linear.{Linear}
 use Rattle.tmem_builtins.specs.Builtins.{builtin_steps}

@@ -13,7 +13,7 @@ use std::thread::Threads;
 use tmem_args::Counting;
 use tmem_bench::{COUNTING_SLOTS, COUNTING_VARS, CountingWork, Totals, count_up};
 use tmem_fault::Fault;
-use tmem_run::{Flushed, Notes, device_in_memory, flush_output, made_file, print_line};
+use tmem_run::{Flushed, Trace, device_in_memory, flush_output, made_file, print_line};
 use tmem_script::ProgramFailure;
 use tmem_world::Layout;
 
@@ -22,7 +22,7 @@ pub(crate) fn count_in_threads<W: Write>(
     rt: &(impl Files<File = File> + AllocGlobal + Threads + Wait + Clock + Sync),
     counting: Counting,
     out: &mut W,
-    notes: &mut Notes,
+    trace: &mut Trace,
 ) -> Result<Flushed, ProgramFailure>
     ensures counted { OnOk result (CountsUp (record { workers = counting.entry.workers; turns = counting.entry.turns }) (option_map (λ text. text.now) counting.entry.disk) (W.contents out.old) (W.contents out.new)) }
     ensures failed { IfErr result IsWhyNotCounted }
@@ -31,18 +31,18 @@ pub(crate) fn count_in_threads<W: Write>(
         workers: counting.workers,
         turns: counting.turns,
     };
-    let totals = count_on(rt, work, counting.disk, notes)?;
+    let totals = count_on(rt, work, counting.disk, trace)?;
     print_line(out, TotalsText(totals))?;
     flush_output(out)
 }
 
-// Lets workers count up in a store that is made for them: in memory, or in a file that is not there yet. Once that is made, it is noted
-// that this program had it open.
+// Lets workers count up in a store that is made for them: in memory, or in a file that is not there yet. Once that is made, the trace
+// keeps that this program had it open.
 fn count_on<R: Files<File = File> + AllocGlobal + Threads + Wait + Clock + Sync>(
     rt: &R,
     work: CountingWork,
     path: Option<&str>,
-    notes: &mut Notes,
+    trace: &mut Trace,
 ) -> Result<Totals, Fault>
     ensures made { IfOk result (λ _. IsMadeAt (option_map (λ text. text.now) path.entry)) }
     ensures totals { IfOk result (λ totals. (opening : State) × AreTotals opening work totals) }
@@ -52,7 +52,7 @@ fn count_on<R: Files<File = File> + AllocGlobal + Threads + Wait + Clock + Sync>
         None => count_up(rt, rt.alloc(), device_in_memory(rt.alloc(), layout)?, work),
         Some(path) => {
             let made = made_file(rt, path, layout)?;
-            notes.note_device(true);
+            trace.keep_device(true);
             let (disk, _zeros) = made;
             count_up(rt, rt.alloc(), disk, work)
         }

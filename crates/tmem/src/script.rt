@@ -9,7 +9,7 @@ use std::alloc::Global;
 use std::fs::{self, File, Files};
 use std::io::{Read, Write};
 use tmem_args::Paths;
-use tmem_run::{Flushed, Notes, Played, flush_output, play};
+use tmem_run::{Flushed, Played, Trace, flush_output, play};
 use tmem_script::{ProgramFailure, Script, ScriptError};
 
 /// Reads a script, from its file or else from the input, plays it to its end, and flushes what was printed. The device of a
@@ -20,7 +20,7 @@ pub(crate) fn run_script<R: Read, W: Write>(
     input: &mut R,
     out: &mut W,
     device: &mut Option<Played>,
-    notes: &mut Notes,
+    trace: &mut Trace,
 ) -> Result<Flushed, ProgramFailure>
     requires { device.old ≡ None }
     ensures played { OnOk result (PlaysRead (MayBeRead (option_map (λ text. text.now) paths.entry.script) (R.remaining input.old)) (option_map (λ text. text.now) paths.entry.disk) device.new (W.contents out.old) (W.contents out.new)) }
@@ -29,8 +29,8 @@ pub(crate) fn run_script<R: Read, W: Write>(
     ensures withheld { IsSome paths.entry.disk → OnErr result (device.new ≡ None → out.new ≡ out.old) }
     ensures other_file { IsSome paths.entry.script → input.new ≡ input.old }
 {
-    let script = script_of(rt, paths.script, input, notes)?;
-    play(rt, script, paths.disk, out, device, notes)?;
+    let script = script_of(rt, paths.script, input, trace)?;
+    play(rt, script, paths.disk, out, device, trace)?;
     flush_output(out)
 }
 
@@ -39,7 +39,7 @@ fn script_of<R: Read>(
     rt: &(impl Files<File = File> + AllocGlobal),
     path: Option<&str>,
     input: &mut R,
-    notes: &mut Notes,
+    trace: &mut Trace,
 ) -> Result<Script, ScriptError>
     ensures script { IfOk result (λ script. (text : List ℕ) × MayBeRead (option_map (λ text. text.now) path.entry) (R.remaining input.old) text
         × IsScriptText script.vars script.slots script.entries.items text) }
@@ -48,7 +48,7 @@ fn script_of<R: Read>(
 {
     let text = text_of(rt, path, input)?;
     let script = Script::from_slice(rt.alloc(), &text);
-    notes.keep(text);
+    trace.keep_text(text);
     script
 }
 

@@ -10,14 +10,14 @@ use std::fs::{File, Files};
 use std::io::Write;
 use tmem_advice::{StoreFailure, explain_check, explain_run, explain_store};
 use tmem_args::{Asked, Invocation};
-use tmem_run::{Flushed, Notes, flush_output};
+use tmem_run::{Flushed, Trace, flush_output};
 use tmem_script::{ProgramFailure, WordsError, report};
 
 /// Prints the failure of a run, if it failed, and answers the run's status. Tells more, if that is asked for.
 pub(crate) fn conclude<E: Write>(
     rt: &(impl Files<File = File> + AllocGlobal),
     told: Invocation,
-    notes: &Notes,
+    trace: &Trace,
     outcome: Result<Flushed, ProgramFailure>,
     err: &mut E,
 ) -> u8
@@ -27,7 +27,7 @@ pub(crate) fn conclude<E: Write>(
 {
     let status = tell(&outcome, err);
     if told.explains {
-        explain_run(rt, told.asked, notes, &outcome, err);
+        explain_run(rt, told.asked, trace, &outcome, err);
     }
     status
 }

@@ -17,7 +17,7 @@ use std::rt::Clock;
 use std::sync::Wait;
 use std::thread::Threads;
 use tmem_args::{Asked, asked_of};
-use tmem_run::{Notes, Played};
+use tmem_run::{Played, Trace};
 
 /// Does what the words of a command line say, the program's name first, and answers the status: 0 where help or the
 /// version was printed, a script was played to its end, threads counted up, jobs were timed, or a store was shown, made, or served to the
@@ -54,25 +54,25 @@ pub(crate) fn run_words<R: Read, W: Write, E: Write>(
         Ok(told) => told,
         Err(refusal) => return (answer(&refusal, out, err), None),
     };
-    let mut notes = Notes::new(rt.alloc(), told.explains);
+    let mut trace = Trace::new(rt.alloc(), told.explains);
     match told.asked {
         Asked::Run(paths) => {
             let mut device = None;
-            let outcome = run_script(rt, paths, input, out, &mut device, &mut notes);
-            notes.note_device(device.is_some());
-            (conclude(rt, told, &notes, outcome, err), device)
+            let outcome = run_script(rt, paths, input, out, &mut device, &mut trace);
+            trace.keep_device(device.is_some());
+            (conclude(rt, told, &trace, outcome, err), device)
         }
         Asked::Threads(counting) => {
-            let outcome = count_in_threads(rt, counting, out, &mut notes);
-            (conclude(rt, told, &notes, outcome, err), None)
+            let outcome = count_in_threads(rt, counting, out, &mut trace);
+            (conclude(rt, told, &trace, outcome, err), None)
         }
         Asked::Bench(timing) => {
             let outcome = time_jobs(rt, timing, out);
-            (conclude(rt, told, &notes, outcome, err), None)
+            (conclude(rt, told, &trace, outcome, err), None)
         }
         Asked::Show(showing) => {
             let outcome = show_store(rt, showing, out);
-            (conclude(rt, told, &notes, outcome, err), None)
+            (conclude(rt, told, &trace, outcome, err), None)
         }
         Asked::Init(making) => (conclude_store(rt, told, init_store(rt, making), err), None),
         Asked::Serve(serving) => {

@@ -8,12 +8,13 @@ use crate::found::{
     begins_as_store, has_no_bytes, is_block_device, is_damaged, is_store, is_store_empty,
     is_whole_store, length_of_cut, refusal_at, shape_beside, store_of, text_again,
 };
+use crate::tell::{tell, tell_because, tell_cause, tell_of, tell_path, tell_store_cause};
 use crate::texts::{
     A_DEVICE, A_STORE, BEFORE_A_COPY, CUT_BEHIND_ITS_LOG, CUT_STORE, EMPTY_FILE, EMPTY_INPUT,
     EMPTY_STORE, NO_ANSWERS, NO_CLOCK, NO_INPUT, NO_LINES, NO_OUTPUT, NO_SHAPE, NO_SHAPE_OF_STORE,
-    NO_STORE, NONE_YET, NOT_ANSWERED, NOT_BLANK, NOT_REGISTERED, ON_A_DEVICE, OTHER_TEXT,
-    PLACED_OR_NOT, PLAYED, SHORT_DEVICE, STORE_FOR_FILE, STORE_FOR_SCRIPT, STORE_FOR_SHAPE,
-    TEXT_UNREAD, TOO_SHORT, UNSEEN, UNSURE, USE_THAT_COPY,
+    NO_STORE, NOT_ANSWERED, NOT_BLANK, NOT_REGISTERED, ON_A_DEVICE, OTHER_TEXT, PLACED_OR_NOT,
+    PLAYED, SHORT_DEVICE, STORE_FOR_FILE, STORE_FOR_SCRIPT, STORE_FOR_SHAPE, TEXT_UNREAD,
+    TOO_SHORT, UNSEEN, UNSURE, USE_THAT_COPY,
 };
 use std::alloc::Global;
 use std::fmt::Display;
@@ -28,7 +29,7 @@ use tmem_fault::{Cause, Fault};
 use tmem_init::InitError;
 use tmem_parts::block_of;
 use tmem_record::{Layout, MOST_SLOTS, MOST_VARS};
-use tmem_run::{Notes, Refused};
+use tmem_run::{Refused, Trace};
 use tmem_script::{ProgramFailure, Script, ScriptError};
 use tmem_shape::StoreShape;
 use tmem_show::{Refusal, Source};
@@ -37,16 +38,16 @@ use tmem_show::{Refusal, Source};
 pub fn explain_run<T, E: Write>(
     rt: &(impl Files<File = File> + AllocGlobal),
     asked: Asked,
-    notes: &Notes,
+    trace: &Trace,
     outcome: &Result<T, ProgramFailure>,
     err: &mut E,
 ) {
     // Where this fails, nobody is left to tell.
     let _ = match outcome {
         Ok(_) => Ok(()),
-        Err(failure) => explain_failure(rt, asked, notes, failure, err),
+        Err(failure) => explain_failure(rt, asked, trace, failure, err),
     };
-    let _ = explain_entries(rt, asked, notes, err);
+    let _ = explain_entries(rt, asked, trace, err);
 }
 
 // Tells which byte of a store an opening refuses, and what to do. (A store is shown without its lock: what another program writes meanwhile
@@ -72,23 +73,23 @@ fn changes_store(asked: Asked) -> bool {
 fn explain_failure<E: Write>(
     rt: &(impl Files<File = File> + AllocGlobal),
     asked: Asked,
-    notes: &Notes,
+    trace: &Trace,
     failure: &ProgramFailure,
     err: &mut E,
 ) -> io::Result<()> {
     let text = match failure {
-        ProgramFailure::Script(ScriptError::NoScript) if notes.text().is_empty() => {
+        ProgramFailure::Script(ScriptError::NoScript) if trace.text().is_empty() => {
             return tell_empty(asked, err);
         }
         ProgramFailure::Script(ScriptError::NoScript) => {
-            return tell_flaw(rt.alloc(), notes.text(), err);
+            return tell_flaw(rt.alloc(), trace.text(), err);
         }
         ProgramFailure::Script(ScriptError::Unreadable) => return tell_unread(rt, asked, err),
         ProgramFailure::Script(ScriptError::Memory(_)) => return tell(
             err,
             FaultHelp(Fault::Memory),
         ),
-        ProgramFailure::Refused(fault) => return tell_fault(rt, asked, notes, *fault, err),
+        ProgramFailure::Refused(fault) => return tell_fault(rt, asked, trace, *fault, err),
         ProgramFailure::Output if changes_store(asked) => NO_LINES,
         ProgramFailure::Output => NO_OUTPUT,
         ProgramFailure::Clock => NO_CLOCK,
@@ -115,9 +116,9 @@ pub fn explain_check<E: Write>(
     failure: &ProgramFailure,
     err: &mut E,
 ) {
-    let notes = Notes::new(rt.alloc(), false);
+    let trace = Trace::new(rt.alloc(), false);
     // Where this fails, nobody is left to tell.
-    let _ = explain_failure(rt, asked, &notes, failure, err);
+    let _ = explain_failure(rt, asked, &trace, failure, err);
 }
 
 /// Tells more of why a store was not made, or not served to its end.
@@ -211,22 +212,22 @@ fn tell_fault_of_store<E: Write>(
     fault: Fault,
     err: &mut E,
 ) -> io::Result<()> {
-    tell_fault(rt, asked, &Notes::new(rt.alloc(), false), fault, err)
+    tell_fault(rt, asked, &Trace::new(rt.alloc(), false), fault, err)
 }
 
-// Tells what a fault means. Where the bytes of a block device are refused as those of a store, it tells before that how a copy is put
+// Tells what a fault means. Where the bytes of a block device are refused as those of a store, it tells before that how a backup is put
 // there. (Of the numbers, `tell_geometry` does so. Of one on which a store was to be made, no bytes are refused so.)
 fn tell_fault<E: Write>(
     rt: &(impl Files<File = File> + AllocGlobal),
     asked: Asked,
-    notes: &Notes,
+    trace: &Trace,
     fault: Fault,
     err: &mut E,
 ) -> io::Result<()> {
     if refuses_bytes(fault) && !matches!(asked, Asked::Init(_)) {
         tell_block(rt, asked, err)?;
     }
-    tell_refused(rt, asked, notes, fault, err)
+    tell_refused(rt, asked, trace, fault, err)
 }
 
 // Whether a fault may refuse the bytes of a store.
@@ -241,7 +242,7 @@ fn refuses_bytes(fault: Fault) -> bool {
     }
 }
 
-// Of a block device with bytes, tells to look whether it is the one, and how a copy is put there.
+// Of a block device with bytes, tells to look whether it is the one, and how a backup is put there.
 fn tell_block<E: Write>(
     rt: &(impl Files<File = File> + AllocGlobal),
     asked: Asked,
@@ -454,19 +455,19 @@ fn tell_unserved<E: Write>(
 fn tell_refused<E: Write>(
     rt: &(impl Files<File = File> + AllocGlobal),
     asked: Asked,
-    notes: &Notes,
+    trace: &Trace,
     fault: Fault,
     err: &mut E,
 ) -> io::Result<()> {
     match fault {
         Fault::Device => {
             if let Some((path, wanted)) = store_of(asked) {
-                let wanted = if notes.is_held() {
+                let wanted = if trace.is_held() {
                     Wanted::Held
                 } else {
                     wanted
                 };
-                return tell_device(rt, asked, path, wanted, size_asked(rt, asked, notes), err);
+                return tell_device(rt, asked, path, wanted, size_asked(rt, asked, trace), err);
             }
         }
         Fault::Damaged | Fault::NotFormatted => {
@@ -481,7 +482,7 @@ fn tell_refused<E: Write>(
             Asked::Init(_) => return tell_of(err, asked, PLACED_OR_NOT),
             _ => {}
         },
-        Fault::Geometry => return tell_geometry(rt, asked, notes, err),
+        Fault::Geometry => return tell_geometry(rt, asked, trace, err),
         Fault::Broken(name) if matches!(asked, Asked::Init(_)) => return tell(
             err,
             format_args!(
@@ -524,8 +525,8 @@ fn places_shape(asked: Asked) -> bool {
 }
 
 // How many bytes a store of the numbers has that were asked for; where they are not known, the longest.
-fn size_asked(rt: &(impl Files<File = File> + AllocGlobal), asked: Asked, notes: &Notes) -> u64 {
-    let (vars, slots) = numbers_in(rt, asked, notes).unwrap_or((MOST_VARS, MOST_SLOTS));
+fn size_asked(rt: &(impl Files<File = File> + AllocGlobal), asked: Asked, trace: &Trace) -> u64 {
+    let (vars, slots) = numbers_in(rt, asked, trace).unwrap_or((MOST_VARS, MOST_SLOTS));
     match Layout::new(vars, slots) {
         Ok(layout) => layout.end(),
         Err(_) => 0,
@@ -536,7 +537,7 @@ fn size_asked(rt: &(impl Files<File = File> + AllocGlobal), asked: Asked, notes:
 fn tell_geometry<E: Write>(
     rt: &(impl Files<File = File> + AllocGlobal),
     asked: Asked,
-    notes: &Notes,
+    trace: &Trace,
     err: &mut E,
 ) -> io::Result<()> {
     if has_no_bytes(rt, asked) {
@@ -548,7 +549,7 @@ fn tell_geometry<E: Write>(
     if matches!(asked, Asked::Init(_)) && is_store(rt, asked) {
         return tell_store(rt, asked, err);
     }
-    let Some((vars, slots)) = numbers_in(rt, asked, notes) else {
+    let Some((vars, slots)) = numbers_in(rt, asked, trace) else {
         return tell_cut_off(rt, asked, err);
     };
     match Layout::new(vars, slots) {
@@ -612,10 +613,10 @@ fn tell_numbers<E: Write>(
 fn numbers_in(
     rt: &(impl Files<File = File> + AllocGlobal),
     asked: Asked,
-    notes: &Notes,
+    trace: &Trace,
 ) -> Option<(u16, u16)> {
     match asked {
-        Asked::Run(_) => match Script::from_slice(rt.alloc(), notes.text()) {
+        Asked::Run(_) => match Script::from_slice(rt.alloc(), trace.text()) {
             Ok(script) => Some((script.vars, script.slots)),
             Err(_) => None,
         },
@@ -668,36 +669,36 @@ fn found_in(
 fn explain_entries<E: Write>(
     rt: &(impl Files<File = File> + AllocGlobal),
     asked: Asked,
-    notes: &Notes,
+    trace: &Trace,
     err: &mut E,
 ) -> io::Result<()> {
     let path = store_of(asked).map(|found| found.0);
-    if refuses_bytes_of_any(notes) {
+    if refuses_bytes_of_any(trace) {
         tell_block(rt, asked, err)?;
     }
-    for refused in notes.refused() {
-        explain_entry(rt, asked, path, notes.text(), refused, err)?;
+    for refused in trace.refused() {
+        explain_entry(rt, asked, path, trace.text(), refused, err)?;
     }
     match path {
-        Some(path) => tell_left(notes, path, err),
+        Some(path) => tell_left(trace, path, err),
         None => Ok(()),
     }
 }
 
 // Whether the fault of an entry may refuse the bytes of a store.
-fn refuses_bytes_of_any(notes: &Notes) -> bool {
-    notes
+fn refuses_bytes_of_any(trace: &Trace) -> bool {
+    trace
         .refused()
         .iter()
         .any(|refused| refuses_bytes(refused.fault))
 }
 
 // Tells of a run in a file that the other entries were played, where some were refused, and what it left that is not durable.
-fn tell_left<E: Write>(notes: &Notes, path: &str, err: &mut E) -> io::Result<()> {
-    if !notes.refused().is_empty() {
+fn tell_left<E: Write>(trace: &Trace, path: &str, err: &mut E) -> io::Result<()> {
+    if !trace.refused().is_empty() {
         tell_path(err, path, PLAYED)?;
     }
-    match notes.lost() {
+    match trace.lost() {
         Some(lost) => tell_path(err, path, lost),
         None => Ok(()),
     }
@@ -765,50 +766,4 @@ fn tell_call<E: Write>(
     }
     tell_failing_block(rt, asked, cause, err)?;
     tell_entry(err, index, Fault::Device, format_args!("{path}: {cause}"))
-}
-
-// Tells why the path of a store could not be used.
-fn tell_store_cause<E: Write>(err: &mut E, path: &str, cause: DeviceCause) -> io::Result<()> {
-    match cause {
-        DeviceCause::Missing => tell(
-            err,
-            format_args!("{path}: {cause}; {BEFORE_A_COPY}; {NONE_YET}"),
-        ),
-        _ => tell_cause(err, path, cause),
-    }
-}
-
-// Tells why a path could not be used.
-fn tell_cause<E: Write>(err: &mut E, path: &str, cause: DeviceCause) -> io::Result<()> {
-    match cause {
-        DeviceCause::Empty => tell(err, cause),
-        _ => tell_path(err, path, cause),
-    }
-}
-
-// Tells something of the store's file, or of none.
-fn tell_of<E: Write, T: Display + Drop>(err: &mut E, asked: Asked, text: T) -> io::Result<()> {
-    match store_of(asked) {
-        Some((path, _)) => tell_path(err, path, text),
-        None => tell(err, text),
-    }
-}
-
-fn tell<E: Write, T: Display + Drop>(err: &mut E, text: T) -> io::Result<()> {
-    writeln!(err, "tmem: {text}")
-}
-
-// Tells something of a path.
-fn tell_path<E: Write, T: Display + Drop>(err: &mut E, path: &str, text: T) -> io::Result<()> {
-    writeln!(err, "tmem: {path}: {text}")
-}
-
-// Tells something of a path, and why it is so.
-fn tell_because<E: Write, T: Display + Drop, C: Display + Drop>(
-    err: &mut E,
-    path: &str,
-    text: T,
-    why: C,
-) -> io::Result<()> {
-    writeln!(err, "tmem: {path}: {text}: {why}")
 }

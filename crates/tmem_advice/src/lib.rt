@@ -8,6 +8,7 @@
 mod explain;
 mod failure;
 mod found;
+mod tell;
 mod texts;
 
 pub use explain::{explain_check, explain_run, explain_store};

@@ -104,7 +104,7 @@ pub struct Timing<'a> {
     pub job: Option<u16>,
 }
 
-/// What is asked for. Refused with what is to be told of the words: help or the version where it was asked for, else what is
+/// What is asked for. Refused with what is to be told of the words: help or the release where it was asked for, else what is
 /// wrong with them.
 pub fn asked_of<'a>(alloc: Global, words: &'a [String]) -> Result<Invocation<'a>, clap::Error>
     ensures told { IfOk result (IsTold (map string_bytes words.now)) }
@@ -299,7 +299,9 @@ fn program<'a>(alloc: Global) -> Result<Command<'a>, AllocError>
 {
     Command::new(alloc, "tmem")
         .version(VERSION)
-        .about("Durable transactions, played from scripts")
+        .about(
+            "Durable transactions, played from scripts or served (with --explain a command that fails says why, and what to do)",
+        )
         .subcommand_required(true)
         .bin_name("tmem")
 }

@@ -1,7 +1,7 @@
 // What the bank does with its store.
 ghost use Rattle.std.specs.Prelude.{◌≡◌};
 ghost use Rattle.tmem_front.specs.Held.{front_found, spine_of, front_steps, front_table};
-ghost use Rattle.tmem_tree.specs.Plans.{FitsSteps, FitsVariables, FitsNames, FitsShapes};
+ghost use Rattle.tmem_tree.specs.Plans.{FitsSteps, FitsVariables, FitsNames, FitsSignatures};
 ghost use Rattle.tmem_bank.specs.Accounts.{bank};
 
 use crate::device::SLOTS;
@@ -122,7 +122,7 @@ fn settle_again<
     requires steps { FitsSteps (S.arities front.now.steps) plan.now.tree }
     requires variables { FitsVariables front.now.vars plan.now }
     requires names { FitsNames N.program.names plan.now.tree }
-    requires shapes { FitsShapes N.program.tests plan.now }
+    requires signatures { FitsSignatures N.program.tests plan.now }
 {
     settle_and_say(rt, front, pass, plan)?;
     settle_and_say(rt, front, pass, plan)?;
@@ -161,7 +161,7 @@ fn settle_and_say<
     requires steps { FitsSteps (S.arities front.now.steps) plan.now.tree }
     requires variables { FitsVariables front.now.vars plan.now }
     requires names { FitsNames N.program.names plan.now.tree }
-    requires shapes { FitsShapes N.program.tests plan.now }
+    requires signatures { FitsSignatures N.program.tests plan.now }
 {
     say(rt, &front.atomically(rt, pass, plan)?);
     Ok(())

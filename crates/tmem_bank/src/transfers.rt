@@ -1,7 +1,7 @@
 // What the bank asks of its store, as transactions.
 ghost use Rattle.std.specs.Prelude.{ℕ, List};
 ghost use Rattle.tmem_invariants.specs.Meanings.{Meanings};
-ghost use Rattle.tmem_tree.specs.Plans.{FitsSteps, FitsVariables, FitsNames, FitsShapes};
+ghost use Rattle.tmem_tree.specs.Plans.{FitsSteps, FitsVariables, FitsNames, FitsSignatures};
 
 use crate::service::ACCOUNTS;
 use std::alloc::{AllocError, Global};
@@ -41,7 +41,7 @@ impl Transfer {
         ensures steps { (arities : List ℕ) → FitsSteps arities plan.old.tree → FitsSteps arities plan.new.tree }
         ensures variables { (vars : ℕ) → FitsVariables vars plan.old → FitsVariables vars plan.new }
         ensures names { (names : List (List ℕ)) → FitsNames names plan.old.tree → FitsNames names plan.new.tree }
-        ensures shapes { (tests : Meanings) → FitsShapes tests plan.old → FitsShapes tests plan.new }
+        ensures signatures { (tests : Meanings) → FitsSignatures tests plan.old → FitsSignatures tests plan.new }
     {
         let amount = self.amount.saturating_add(i64::from(more));
         let _ = plan.set_number(0, amount.saturating_neg());

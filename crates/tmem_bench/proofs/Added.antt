@@ -17,7 +17,7 @@ use Rattle.tmem_tree.specs.declared.settled.Settled.{Settled}
 use Rattle.tmem_tree.specs.declared.settled.Settled.TheVariants.{Committed, Seen, Retry, Aborted, Refused}
 use Rattle.tmem_core.specs.Program.{Program}
 use Rattle.tmem_core.specs.Verdict.{first_broken, committed}
-use Rattle.tmem_core.specs.SettleAnswer.{settle_answer, ending_answer, sound_answer, unless_refused, is_stale}
+use Rattle.tmem_core.specs.SettleAnswer.{settle_answer, ending_answer, sound_answer, unless_refused, has_changed}
 use Rattle.tmem_spine.specs.declared.view.MarkedEffect.{MarkedEffect}
 use Rattle.tmem_spine.specs.History.{count}
 use Rattle.tmem_spine.specs.Views.{PassRoleView}
@@ -79,7 +79,7 @@ of_core false stale n r numbers = of_open stale n r numbers
 
 -- what a core commits has the number of those before it
 committed_number : (p : Program) (shut : Bool) (s : State) (durable : ℕ) (a : Attempt) → Numbers s.count (settle_answer p shut s durable a)
-committed_number p shut s durable a = of_core shut (is_stale s a.reads.entries) s.count _ (of_ending p a.ending s durable a.effect a.registers)
+committed_number p shut s durable a = of_core shut (has_changed s a.reads.entries) s.count _ (of_ending p a.ending s durable a.effect a.registers)
 
 -- one effect is committed by an answer with a number, and none by the others
 commits_one : (s : Settled) (e : Effect) (n : ℕ) → number_in s ≡ Some n → committed s e ≡ e ∷ []

@@ -8,7 +8,7 @@ use Rattle.tmem_bench.specs.declared.jobs.Act.TheVariants.{Add, AddMany, Transfe
 use Rattle.tmem_bench.specs.declared.jobs.Callers.{Callers}
 use Rattle.tmem_bench.specs.declared.jobs.Callers.TheVariants.{Alone, Beside}
 use Rattle.tmem_bench.specs.declared.store.StoreUse.{StoreUse}
-use Rattle.tmem_bench.specs.declared.store.StoreUse.TheVariants.{Serve, Fill, Open}
+use Rattle.tmem_bench.specs.declared.store.StoreUse.TheVariants.{Serve, FillLog, Open}
 use Rattle.tmem_bench.specs.declared.store.On.{On}
 use Rattle.tmem_bench.specs.declared.store.On.TheVariants.{Core, Store}
 
@@ -38,7 +38,7 @@ callers_in (Beside count) = count
 -- what the invariant is over of a store with which this is done: the accounts where nothing moves
 abbrev pub variables_in : StoreUse → List ℕ
 variables_in (Serve job) = variables_of job.act
-variables_in Fill = 1 ∷ 2 ∷ []
+variables_in FillLog = 1 ∷ 2 ∷ []
 variables_in Open = 1 ∷ 2 ∷ []
 
 -- the same, on a core or on a store

@@ -2,7 +2,7 @@
 ghost use Rattle.std.specs.Prelude.{◌≡◌, ◌≤◌, ℕ, IfOk, IfErr};
 ghost use Rattle.tmem_fault.specs.declared.fault.Fault.TheVariants as fault;
 ghost use Rattle.tmem_seats.specs.Flushing.{IsFlusherRefusal};
-ghost use Rattle.tmem_tree.specs.Plans.{FitsSteps, FitsVariables, FitsNames, FitsShapes};
+ghost use Rattle.tmem_tree.specs.Plans.{FitsSteps, FitsVariables, FitsNames, FitsSignatures};
 ghost use Rattle.tmem_bench.specs.Counting.{AddsDurable, is_commit, once};
 
 use std::alloc::Global;
@@ -74,7 +74,7 @@ fn add_turns<R: Wait, D: Disk + Drop, N: StoreNaming, T: Invariants + Drop, S: S
     requires steps { FitsSteps (S.arities front.now.steps) plan.now.tree }
     requires variables { FitsVariables front.now.vars plan.now }
     requires names { FitsNames N.program.names plan.now.tree }
-    requires shapes { FitsShapes N.program.tests plan.now }
+    requires signatures { FitsSignatures N.program.tests plan.now }
     ensures added { IfOk result (λ committed. ∥ AddsDurable N.name.start pass.old committed pass.new ∥₁) }
     ensures most { IfOk result (λ committed. committed ≤ turns) }
 {
@@ -97,7 +97,7 @@ fn add_once<R: Wait, D: Disk + Drop, N: StoreNaming, T: Invariants + Drop, S: St
     requires steps { FitsSteps (S.arities front.now.steps) plan.now.tree }
     requires variables { FitsVariables front.now.vars plan.now }
     requires names { FitsNames N.program.names plan.now.tree }
-    requires shapes { FitsShapes N.program.tests plan.now }
+    requires signatures { FitsSignatures N.program.tests plan.now }
     ensures { IfOk result (λ is_committed. ∥ AddsDurable N.name.start pass.old (once is_committed) pass.new ∥₁) }
 {
     let settled = front.commit_durable(rt, pass, plan)?;

@@ -15,7 +15,7 @@ pub enum Work {
     /// Transactions on a store.
     OnStore(Act),
     /// The log of a store was filled.
-    Fill,
+    FillLog,
     /// A store was opened.
     Open,
     /// A device was synced twice, each time behind a write.
@@ -30,7 +30,7 @@ impl Work {
         match self {
             Work::OnCore(act) => act.name_on_core(),
             Work::OnStore(act) => act.name(),
-            Work::Fill => "fill",
+            Work::FillLog => "fill",
             Work::Open => "open 1024 variables",
             Work::SyncTwice => "two syncs",
             Work::ReadTwice => "two reads of the file",

@@ -19,7 +19,7 @@ use tmem_state::{NameSet, State};
 use tmem_tentative::{Cursor, Progress};
 use tmem_tree::{MAX_TURNS, Plan, StoredSteps};
 
-// After so many transactions they are noted as durable, and the clock is read.
+// After so many transactions the core learns that they are durable, and the clock is read.
 const ROUND: u64 = 64;
 
 /// What the transactions of a job on a core come to. Every variable has something at the start, and the invariant is registered.
@@ -103,7 +103,7 @@ fn state_over(alloc: Global, vars: u16) -> Result<State, Fault>
     Ok(State::of(0, names, vec![in alloc; DEPOSIT; vars as usize]?))
 }
 
-// Settles it a number of times, and notes all of that as durable.
+// Settles it a number of times, and tells the core that all of that is durable.
 fn settle_round<T: Invariants + Drop, S: StoredSteps>(
     core: &mut Core<T>,
     cursor: &mut Cursor,
@@ -120,7 +120,7 @@ fn settle_round<T: Invariants + Drop, S: StoredSteps>(
     for _ in 0..ROUND {
         settle(core, cursor, plan, steps, vars)?;
     }
-    core.note_durable(core.count());
+    core.learn_durable(core.count());
     Ok(())
 }
 

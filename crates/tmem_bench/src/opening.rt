@@ -43,7 +43,7 @@ fn fill_and_open<R: Clock + Files<File = File> + AllocGlobal + Threads + Wait + 
     ensures read { IfOk result (λ had. had.1.work ≡ ReadTwice) }
 {
     format(&mut disk, MANY, SLOTS)?;
-    with_bank(rt, MANY, On::Store(disk, StoreUse::Fill))?;
+    with_bank(rt, MANY, On::Store(disk, StoreUse::FillLog))?;
     open_until(rt, path, now(rt)?, time)
 }
 

@@ -2,7 +2,7 @@
 ghost use Rattle.std.specs.Prelude.{◌≡◌, ◌+◌, ◌-◌, ◌^◌, min, IfOk};
 ghost use Rattle.tmem_bench.specs.Transactions.{Does};
 ghost use Rattle.tmem_bench.specs.declared.figures.Work.TheVariants.{OnStore};
-ghost use Rattle.tmem_tree.specs.Plans.{FitsSteps, FitsVariables, FitsNames, FitsShapes};
+ghost use Rattle.tmem_tree.specs.Plans.{FitsSteps, FitsVariables, FitsNames, FitsSignatures};
 
 use crate::error::{BenchError, now, since};
 use crate::figures::{Figures, Work};
@@ -179,7 +179,7 @@ fn settle_until<
     requires steps { FitsSteps (S.arities front.now.steps) plan.now.tree }
     requires variables { FitsVariables front.now.vars plan.now }
     requires names { FitsNames N.program.names plan.now.tree }
-    requires shapes { FitsShapes N.program.tests plan.now }
+    requires signatures { FitsSignatures N.program.tests plan.now }
     ensures { IfOk result (λ had. had.work ≡ OnStore job.act) }
 {
     let mut had = Figures::zero(Work::OnStore(job.act));
@@ -210,7 +210,7 @@ fn settle_some<
     requires steps { FitsSteps (S.arities front.now.steps) plan.now.tree }
     requires variables { FitsVariables front.now.vars plan.now }
     requires names { FitsNames N.program.names plan.now.tree }
-    requires shapes { FitsShapes N.program.tests plan.now }
+    requires signatures { FitsSignatures N.program.tests plan.now }
     ensures { had.new.work ≡ had.old.work }
 {
     let mut last = None;

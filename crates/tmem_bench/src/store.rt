@@ -31,7 +31,7 @@ pub enum StoreUse {
     /// Runs a job.
     Serve(Job),
     /// Fills the log.
-    Fill,
+    FillLog,
     /// Nothing.
     Open,
 }
@@ -53,7 +53,7 @@ impl<D: Disk> On<D> {
         match self {
             On::Core(job) => job.act.footprint(),
             On::Store(_, StoreUse::Serve(job)) => job.act.footprint(),
-            On::Store(_, StoreUse::Fill | StoreUse::Open) => Act::Add.footprint(),
+            On::Store(_, StoreUse::FillLog | StoreUse::Open) => Act::Add.footprint(),
         }
     }
 }
@@ -143,9 +143,9 @@ fn with_front<
     let front = opened.named::<N>();
     match task {
         StoreUse::Serve(job) => serve(rt, alloc, &front, job),
-        StoreUse::Fill => {
+        StoreUse::FillLog => {
             front.fill(rt, alloc)?;
-            Ok(Figures::zero(Work::Fill))
+            Ok(Figures::zero(Work::FillLog))
         }
         StoreUse::Open => Ok(Figures::zero(Work::Open)),
     }

@@ -2,9 +2,9 @@ mod Choices
 mod Endings
 mod Meant
 mod Named
+mod Quiet
 mod Scratch
 mod Sequences
-mod Shapes
 mod Sizes
 mod Tables
 mod Third

@@ -9,11 +9,11 @@ use Rattle.tmem_invariants.specs.Meanings.{Meanings}
 use Rattle.tmem_builtins.specs.Steps.{sum_of, difference_of, at_least}
 use Rattle.tmem_builtins.specs.Invariants.{is_not_negative, add_to_hundred, are_ordered, fitting}
 
--- what each step answers, in the order of their numbers
+-- what each step answers, in the order of their indices
 abbrev pub step_answers : List (List ℤ → StepAnswer)
 step_answers = sum_of ∷ difference_of ∷ at_least ∷ []
 
--- the step of each number: 0 is `add`, 1 is `sub`, 2 is `need`
+-- the step at each index: 0 is `add`, 1 is `sub`, 2 is `need`
 abbrev pub builtin_steps : StepMeanings
 builtin_steps index = slice_index_or step_answers index (λ args. Retry)
 

@@ -30,6 +30,6 @@ difference_of args = value_or_abort (first args -ℤ second args)
 abbrev pub at_least : List ℤ → StepAnswer
 at_least args = if int_lt (first args) (second args) then Retry else Value (first args)
 
--- their names, each in the place of its number
+-- their names, each at its index
 abbrev pub step_names : List (List ℕ)
 step_names = codes "add" ∷ codes "sub" ∷ codes "need" ∷ []

@@ -22,7 +22,7 @@ use Rattle.tmem_core.specs.declared.decision.Decision.{Decision}
 use Rattle.tmem_core.specs.declared.core_state.Core.{Core}
 use Rattle.tmem_invariants.specs.declared.named.Invariants.{Ghosts}
 use Rattle.tmem_core.specs.Verdict.{map_of, first_broken, unless_broken, verdict, verdict_on, verdict_normal, effect_on, committed}
-use Rattle.tmem_core.specs.SettleAnswer.{is_stale, sound_answer, unless_refused, normal_answer, ending_answer, settle_answer, allowed, judged, IsAdded, IsRefusal, TellsOneOf, committed_by}
+use Rattle.tmem_core.specs.SettleAnswer.{has_changed, sound_answer, unless_refused, normal_answer, ending_answer, settle_answer, allowed, judged, IsAdded, IsRefusal, TellsOneOf, committed_by}
 use Rattle.tmem_core.proofs.Present.{agrees}
 use Rattle.tmem_core.proofs.Probed.{has_name-find}
 
@@ -70,7 +70,7 @@ judges_ending p (run.Aborted code) s durable a ends = subst (λ x. JudgesRun p s
 judges_ending p (run.Broken name) s durable a ends = subst (λ x. JudgesRun p s durable a.effect (ending_answer p x s durable a.effect a.registers) (run.Broken name)) (sym ends.0) (refl, refl)
 
 -- where no value that was read differs, the answer by the ending is the verdict's, and it commits what the plan adds
-judges_attempt : (p : Program) (tx : Tx) (s : State) (durable : ℕ) (a : Attempt) → is_stale s a.reads.entries ≡ false → IsRight p.steps p.tests tx a
+judges_attempt : (p : Program) (tx : Tx) (s : State) (durable : ℕ) (a : Attempt) → has_changed s a.reads.entries ≡ false → IsRight p.steps p.tests tx a
     → JudgesRun p s durable a.effect (ending_answer p a.ending s durable a.effect a.registers) (run p.steps p.tests tx (start (map_of s)))
 judges_attempt p tx s durable a fresh right = judges_ending p (run p.steps p.tests tx (start (map_of s))) s durable a (right.ends (map_of s) (agrees s a.reads.entries fresh))
 
@@ -92,7 +92,7 @@ sound_tells names s durable e registers = on (is_empty e) (s.count - durable == 
 -- of them that its effect would break.
 pub TellsOneOf-answer : (p : Program) (shut : Bool) (s : State) (durable : ℕ) (a : Attempt) → IsEndingFor p.names a.ending → IfOk (settle_answer p shut s durable a) (TellsOneOf p.names)
 TellsOneOf-answer p shut s durable a known =
-    on shut (is_stale s a.reads.entries) (ending_answer p a.ending s durable a.effect a.registers) (by_ending a.ending known)
+    on shut (has_changed s a.reads.entries) (ending_answer p a.ending s durable a.effect a.registers) (by_ending a.ending known)
   where
     by_normal : (o : Option (List ℕ)) → first_broken p s a.effect ≡ o → IfOk (unless_refused o (sound_answer s durable a.effect a.registers)) (TellsOneOf p.names)
     by_normal (Some name) is = has_name-find _ p.names name is
@@ -115,11 +115,11 @@ committing-none v = rw (append-nil v.history, append-nil v.waiting)
 
 module _ {T : Type 0} {t : Ghosts T} (old new : Core T t) (a : Attempt) where
   -- an attempt is settled by its ending, where the core runs and no value that was read differs
-  pub settles : (x : Result Settled Fault) → is_shut_of old ≡ false → is_stale (core_state old) a.reads.entries ≡ false
+  pub settles : (x : Result Settled Fault) → is_shut_of old ≡ false → has_changed (core_state old) a.reads.entries ≡ false
       → ((p : Program) → IsProgramOf t (core_table old) p → x ≡ ending_answer p a.ending (core_state old) (durable_of old) a.effect a.registers)
       → IfErr x IsRefusal → core_view new ≡ committing (committed_by x a.effect) (core_view old) → Settles old new a x
   settles x runs fresh by_ending refused view = record {
-    answer = λ p are. by_ending p are ∙ sym (running (λ b. cond b (Err fault.Closed) (cond (is_stale (core_state old) a.reads.entries) (Err fault.Conflict) (by_its_ending p)))
+    answer = λ p are. by_ending p are ∙ sym (running (λ b. cond b (Err fault.Closed) (cond (has_changed (core_state old) a.reads.entries) (Err fault.Conflict) (by_its_ending p)))
         ∙ ap (λ b. cond b (Err fault.Conflict) (by_its_ending p)) fresh);
     verdict = λ p tx are right. by_ending p are ∙ (judges_attempt p tx (core_state old) (durable_of old) a fresh right).0
         ∙ sym (running (λ b. judged b (core_state old) (durable_of old) a.reads.entries (verdict p tx (core_state old)))

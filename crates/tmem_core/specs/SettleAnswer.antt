@@ -17,8 +17,8 @@ use Rattle.tmem_core.specs.Program.{Program}
 use Rattle.tmem_core.specs.Verdict.{map_of, first_broken, committed, committed_of}
 
 -- some value that was read is not the present one
-abbrev pub is_stale : State → List (ℕ × ℤ) → Bool
-is_stale s reads = list_any (λ (r : ℕ × ℤ). not (int_eq (map_of s r.0) r.1)) reads
+abbrev pub has_changed : State → List (ℕ × ℤ) → Bool
+has_changed s reads = list_any (λ (r : ℕ × ℤ). not (int_eq (map_of s r.0) r.1)) reads
 
 -- the answer to an effect that breaks no invariant: at most 256 may wait, and a count stays below 2 ^ 64
 abbrev pub sound_answer : State → ℕ → Effect → List ℤ → Result Settled Fault
@@ -48,7 +48,7 @@ ending_answer p (ended.Broken name) s durable e registers = Ok (Refused name)
 abbrev pub settle_answer : Program → Bool → State → ℕ → Attempt → Result Settled Fault
 settle_answer p shut s durable a =
     if shut then Err fault.Closed
-    else if is_stale s a.reads.entries then Err fault.Conflict
+    else if has_changed s a.reads.entries then Err fault.Conflict
     else ending_answer p a.ending s durable a.effect a.registers
 
 -- where the answer tells the name of an invariant, that is one of these
@@ -81,7 +81,7 @@ allowed v durable = Ok v
 abbrev pub judged : Bool → State → ℕ → List (ℕ × ℤ) → Settled → Result Settled Fault
 judged shut s durable reads v =
     if shut then Err fault.Closed
-    else if is_stale s reads then Err fault.Conflict
+    else if has_changed s reads then Err fault.Conflict
     else allowed v durable
 
 -- what an answer commits of an attempt is what the plan adds to the state

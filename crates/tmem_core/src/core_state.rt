@@ -9,7 +9,7 @@ ghost use Rattle.tmem_invariants.specs.Meanings.{Meanings, AllHold, IsSound, fir
 ghost use Rattle.tmem_invariants.specs.Indices.{AreIndicesOf};
 ghost use Rattle.tmem_tentative.specs.Fits.{IsForVariables, IsForNames};
 ghost use Rattle.tmem_core.specs.Opening.{fault_against, IsOpeningRefusal};
-ghost use Rattle.tmem_core.specs.SettleAnswer.{is_stale};
+ghost use Rattle.tmem_core.specs.SettleAnswer.{has_changed};
 ghost use Rattle.tmem_effect.specs.Loggable.{IsLoggable, IsLoggable-prop};
 ghost use Rattle.tmem_core.specs.History.{IsFolded, effects_of};
 ghost use Rattle.tmem_core.specs.Taking.{IsTaken, BatchHasRoom};
@@ -238,7 +238,7 @@ impl<T: Invariants + Drop> Core<T> {
         if self.is_shut {
             return Err(Fault::Closed);
         }
-        if is_stale(&self.state, &attempt.reads) {
+        if has_changed(&self.state, &attempt.reads) {
             return Err(Fault::Conflict);
         }
         match attempt.ending {
@@ -355,7 +355,7 @@ impl<T: Invariants + Drop> Core<T> {
     }
 
     /// So many are known durable from now on, and do not wait any more.
-    pub fn note_durable(&mut self, number: u64)
+    pub fn learn_durable(&mut self, number: u64)
         requires known { durable_of self.old ≤ number }
         requires committed { number ≤ (core_state self.old).count }
         ensures { core_view self.new ≡ knowing number (core_view self.old) }
@@ -400,9 +400,9 @@ fn copies(alloc: Global, state: &State) -> Result<(State, Waiting), AllocError>
 }
 
 // Whether some value that was read is not the present one.
-fn is_stale(state: &State, reads: &Reads) -> bool
+fn has_changed(state: &State, reads: &Reads) -> bool
     requires { All (λ var. var < length state.now.values) (keys_of reads.now.entries) }
-    ensures { result ≡ is_stale state.now reads.now.entries }
+    ensures { result ≡ has_changed state.now reads.now.entries }
 {
     for (var, value) in reads.iter() {
         if state.value(*var) != *value {

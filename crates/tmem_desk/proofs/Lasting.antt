@@ -23,7 +23,7 @@ use Rattle.tmem_tentative.specs.declared.attempt.Ending.{Ending}
 use Rattle.tmem_tentative.specs.declared.attempt.Ending.TheVariants as ended
 use Rattle.tmem_core.specs.Program.{Program}
 use Rattle.tmem_core.specs.Verdict.{committed, first_broken}
-use Rattle.tmem_core.specs.SettleAnswer.{is_stale, sound_answer, unless_refused, ending_answer, settle_answer, committed_by}
+use Rattle.tmem_core.specs.SettleAnswer.{has_changed, sound_answer, unless_refused, ending_answer, settle_answer, committed_by}
 use Rattle.tmem_seats.specs.Histories.{state_after_history, marked}
 use Rattle.tmem_seats.specs.Settling.{SettlesPass, KnowsMore, SeesMore, IsNumberedWithin}
 use Rattle.tmem_answers.specs.declared.answer.Answer.{Answer}
@@ -87,7 +87,7 @@ sound_numbered s durable e registers = on (is_empty e) (s.count - durable == 256
 
 answer_numbered : (p : Program) (shut : Bool) (s : State) (durable : ℕ) (a : Attempt) → IfOk (settle_answer p shut s durable a) (IsNumbered s.count)
 answer_numbered p shut s durable a =
-    on shut (is_stale s a.reads.entries) (ending_answer p a.ending s durable a.effect a.registers) (by_ending a.ending)
+    on shut (has_changed s a.reads.entries) (ending_answer p a.ending s durable a.effect a.registers) (by_ending a.ending)
   where
     by_normal : (o : Option (List ℕ)) → IfOk (unless_refused o (sound_answer s durable a.effect a.registers)) (IsNumbered s.count)
     by_normal (Some name) = tt

@@ -12,7 +12,7 @@ use tmem_tree::Plan;
 pub(crate) fn set_numbers(plan: &mut Plan, numbers: &[i64])
     ensures tree { plan.new.tree ≡ with_numbers numbers.now plan.old.tree }
     ensures numbers { length numbers.now ≤ first_puts plan.old.tree → numbers_of plan.new.tree ≡ numbers.now ++ drop (length numbers.now) (numbers_of plan.old.tree) }
-    ensures shapes { plan.new.shapes ≡ plan.old.shapes }
+    ensures signatures { plan.new.signatures ≡ plan.old.signatures }
     ensures steps { (arities : List ℕ) → FitsSteps arities plan.old.tree → FitsSteps arities plan.new.tree }
     ensures variables { (vars : ℕ) → FitsVariables vars plan.old → FitsVariables vars plan.new }
     ensures names { (names : List (List ℕ)) → FitsNames names plan.old.tree → FitsNames names plan.new.tree }

@@ -1,6 +1,6 @@
 // Plans of the store that is served.
 ghost use Rattle.std.specs.Prelude.{◌≡◌, length};
-ghost use Rattle.tmem_tree.specs.Plans.{FitsSteps, FitsVariables, FitsNames, FitsShapes};
+ghost use Rattle.tmem_tree.specs.Plans.{FitsSteps, FitsVariables, FitsNames, FitsSignatures};
 ghost use Rattle.tmem_desk.specs.Numbering.{with_numbers};
 
 use crate::naming::ServedNaming;
@@ -19,7 +19,7 @@ pub struct Ready<N: ServedNaming> {
     pub ghost steps: { FitsSteps N.arities plan.tree },
     pub ghost variables: { FitsVariables (length N.opening.values) plan },
     pub ghost names: { FitsNames N.program.names plan.tree },
-    pub ghost shapes: { FitsShapes N.program.tests plan },
+    pub ghost signatures: { FitsSignatures N.program.tests plan },
 }
 
 impl<N: ServedNaming> Ready<N> {

@@ -70,7 +70,7 @@ call_help call.NoRoom = codes "there is no room on its file system, or no quota 
 call_help call.LongName = codes "the path or its last part is too long; name one whose last part has at most 250 bytes, for init 245 (STORE.json)"
 call_help call.Limit = codes "this process may not write a file so long (ulimit -f); raise that limit, and run the program again"
 call_help call.Circle = codes "links on this path lead in a circle; mend them, or name the file"
-call_help call.DiskError = codes "the disk reports an error (EIO, see dmesg); copy what was there to a new file on another disk, not onto a device: a file by cp, of a block device the first 286720 bytes by dd iflag=direct with bs of blockdev --getss, never conv=noerror; use that if it was copied to its end or, of a store, if tmem show --explain finds no transaction of it missing; only else use an older copy (what that lacks is lost); make a new one only if there was none"
+call_help call.DiskError = codes "the disk reports an error (EIO, see dmesg); copy what was there to a new file on another disk, not onto a device: a file by cp, of a block device the first 286720 bytes by dd iflag=direct with bs of blockdev --getss, never conv=noerror; use that if it was copied to its end or, of a store, if tmem show --explain finds no transaction of it missing; only else use a backup (what that lacks is lost); make a new one only if there was none"
 call_help call.Other = codes "a call on it failed, for a reason that is not seen now; if another program was just making it, run this one again; else look at its rights, at room (df), at limits (ulimit -f, ulimit -n), whether it is read-only, into the system's log (dmesg), and for files PATH.new0 to PATH.new999 that are left over (remove them while nothing makes a store and, if PATH is there, only once it was opened); open or make it again, after an error of the disk once the machine was started anew; if a store fails so again, end each program that uses it, copy it to a new file on another disk, and sync that; only if it was copied to its end, use that copy alone from then on"
 
 -- why a file could not be used, and what to do

@@ -25,23 +25,23 @@ impl fmt::Display for FaultHelp {
             Fault::Closed =>
                 "an earlier failure has closed the store: a call on its file failed, or it could not be opened again; mend that, open the store again, and see what it has before anything is repeated",
             Fault::Unknown =>
-                "a write or sync failed; of a flush, all of the batch is durable, or none of it; a checkpoint puts no transaction in doubt; repeat nothing yet: open the store again, after an error of the disk (dmesg) once the machine was started anew, and see how many transactions there are; if writes fail again, look for room, also below the device (df, lvs), or end each program that uses the store, copy it to a new file on another disk, and sync that; only if it was copied to its end, use that copy alone from then on",
+                "a write or sync failed; of a flush, all of the batch is in the store, or none of it; a checkpoint puts no transaction in doubt; repeat nothing yet: open the store again, after an error of the disk (dmesg) once the machine was started anew, and see how many transactions there are; if writes fail again, look for room, also below the device (df, lvs), or end each program that uses the store, copy it to a new file on another disk, and sync that; only if it was copied to its end, use that copy alone from then on",
             Fault::Full => "256 transactions wait to be durable; flush, and settle again",
             Fault::LogFull => "every slot of the log is used; make a checkpoint, and flush again",
             Fault::Conflict => "a value that the transaction read has changed; begin it again",
             Fault::NotFormatted =>
-                "this does not begin as a store; check the path; only if a store was there, move this away, and put a copy in its place (what the copy lacks is lost); only if there never was one, make one by tmem init, at another path or, on a block device, here by --in-place",
+                "this does not begin as a store; check the path; only if a store was there, move this away, and put a backup in its place (what the backup lacks is lost); only if there never was one, make one by tmem init, at another path or, on a block device, here by --in-place",
             Fault::Damaged =>
-                "the file is not as tmem leaves one: something else changed it, or a later release of tmem wrote it; run that release, or else move the file away and put a copy in its place (tmem does not repair it, and what the copy lacks is lost)",
+                "the file is not as tmem leaves one: something else changed it, or a later release of tmem wrote it; run that release, or else move the file away and put a backup in its place (tmem does not repair it, and what the backup lacks is lost)",
             Fault::Missing(name) => return write_named(
                 f,
                 name,
-                " is registered in the store, and this program or shape has none of this name; check the paths of the store and of the shape or script; if they are the ones, open the store with the program or shape that used it last, as that was then (a transaction there can retire it, unless that shape has it always); only if that had none of this name, too, something changed the file: move it away, and put a copy in its place (what the copy lacks is lost)",
+                " is registered in the store, and this program or shape has none of this name; check the paths of the store and of the shape or script; if they are the ones, open the store with the program or shape that used it last, as that was then (a transaction there can retire it, unless that shape has it always); only if that had none of this name, too, something changed the file: move it away, and put a backup in its place (what the backup lacks is lost)",
             ),
             Fault::Broken(name) => return write_named(
                 f,
                 name,
-                " is registered in the store, and as this program or shape means it, it is false of the store's values; check the paths of the store and of the shape or script; if they are the ones, compare what it means here with what it meant in the program or shape that used the store last, as that was then; if that differs, open the store with that one; only if not, something changed the file: move it away, and put a copy in its place (what the copy lacks is lost)",
+                " is registered in the store, and as this program or shape means it, it is false of the store's values; check the paths of the store and of the shape or script; if they are the ones, compare what it means here with what it meant in the program or shape that used the store last, as that was then; if that differs, open the store with that one; only if not, something changed the file: move it away, and put a backup in its place (what the backup lacks is lost)",
             ),
             Fault::BadPlan(cause) => return write!(
                 f,
@@ -53,11 +53,11 @@ impl fmt::Display for FaultHelp {
             Fault::BadFootprint =>
                 "an invariant is over no variable, over more than 16, over one twice, or over one that the store lacks (they count from 0); correct that invariant",
             Fault::Spent =>
-                "the count of transactions or of images is at 2^64 - 1, to which no use comes, so something changed the file; see what it has (tmem show PATH); then move it away, and put a copy in its place (what the copy lacks is lost)",
+                "the count of transactions or of images is at 2^64 - 1, to which no use comes, so something changed the file; see what it has (tmem show PATH); then move it away, and put a backup in its place (what the backup lacks is lost)",
             Fault::NoSeat =>
                 "all 32 passes were given out, and one that was dropped is lost until the store is opened again; keep passes, or share them: acquire_pass lends one, and release_pass hands it back",
             Fault::Geometry =>
-                "the numbers of variables and log slots that were asked for are out of limits (1 to 1024, 2 to 64) or not the store's own, or its file was cut off; check the paths; use the shape or script that the store was made with (tmem show PATH prints the store's numbers); if these are the same, move the file away, and put a copy in its place (what the copy lacks is lost)",
+                "the numbers of variables and log slots that were asked for are out of limits (1 to 1024, 2 to 64) or not the store's own, or its file was cut off; check the paths; use the shape or script that the store was made with (tmem show PATH prints the store's numbers); if these are the same, move the file away, and put a backup in its place (what the backup lacks is lost)",
         };
         f.write_str(text)
     }
@@ -94,10 +94,10 @@ impl fmt::Display for RefusalHelp {
         } = *self;
         match fault {
             Fault::Geometry if is_of_no_store => f.write_str(
-                "these bytes are too few for a store; check the path; only if a store was there, move this away, and put a copy in its place (what the copy lacks is lost)",
+                "these bytes are too few for a store; check the path; only if a store was there, move this away, and put a backup in its place (what the backup lacks is lost)",
             ),
             Fault::Geometry => f.write_str(
-                "the file was cut off, or is no store; check the path, or move it away and put a copy in its place (what the copy lacks is lost)",
+                "the file was cut off, or is no store; check the path, or move it away and put a backup in its place (what the backup lacks is lost)",
             ),
             Fault::Damaged if is_shown => write!(
                 f,

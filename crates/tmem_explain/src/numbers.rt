@@ -102,7 +102,7 @@ impl fmt::Display for NumbersHelp {
                 had_slots,
             } => write!(
                 f,
-                "the store has {had_vars} variables and {had_slots} log slots, and {vars} and {slots} were asked for; check both paths; open the store with the shape or script that it was made with (to change the numbers in another opens it under other invariants); only if this very file had the others before, something changed it: move it away, and put a copy in its place (what the copy lacks is lost)"
+                "the store has {had_vars} variables and {had_slots} log slots, and {vars} and {slots} were asked for; check both paths; open the store with the shape or script that it was made with (to change the numbers in another opens it under other invariants); only if this very file had the others before, something changed it: move it away, and put a backup in its place (what the backup lacks is lost)"
             ),
             NumbersHelp::Short {
                 vars,
@@ -111,15 +111,15 @@ impl fmt::Display for NumbersHelp {
                 wants,
             } => write!(
                 f,
-                "it has {has} bytes, and a store of {vars} variables and {slots} log slots has {wants}; check the path, or move it away and put a copy in its place (what the copy lacks is lost)"
+                "it has {has} bytes, and a store of {vars} variables and {slots} log slots has {wants}; check the path, or move it away and put a backup in its place (what the backup lacks is lost)"
             ),
             NumbersHelp::NoRoom { has, wants } => write!(
                 f,
-                "it has {has} bytes, and the store takes {wants}; if a store was there, restore a copy; else make it at least so long, or name another"
+                "it has {has} bytes, and the store takes {wants}; if a store was there, restore a backup; else make it at least so long, or name another"
             ),
             NumbersHelp::NotBlank { has, wants } => write!(
                 f,
-                "it has {has} bytes, not all of them 0, and the store takes {wants}; if a store was there, move this away, and put a copy in its place; else name another"
+                "it has {has} bytes, not all of them 0, and the store takes {wants}; if a store was there, move this away, and put a backup in its place; else name another"
             ),
         }
     }

@@ -4,7 +4,7 @@ use Rattle.tmem_fault.specs.declared.fault.Fault.{Fault}
 use Rattle.tmem_tree.specs.declared.tx.Tx.{Tx}
 use Rattle.tmem_tree.specs.Plans.{PlanView, FitsSteps, FitsNames}
 
--- it is for the names that the shapes have
+-- it is for the names that the signatures have
 pub for_names : (r : Result PlanView Fault) (tx : Tx) (ns names : List (List ℕ)) → IfOk r (λ plan. plan.tree ≡ tx) → IfOk r (λ _. FitsNames ns tx) → ns ≡ names → IfOk r (λ plan. FitsNames names plan.tree)
 for_names (Ok plan) tx ns names is fits same = subst (λ (l : List (List ℕ)). FitsNames l plan.tree) same (subst (λ (t : Tx). FitsNames ns t) (sym is) fits)
 for_names (Err e) tx ns names is fits same = tt

@@ -11,8 +11,8 @@ use Rattle.tmem_effect.specs.Names.{has_name}
 use Rattle.tmem_invariants.specs.Meanings.{Meanings}
 use Rattle.tmem_invariants.specs.TableNames.{AreBelow}
 use Rattle.tmem_invariants.proofs.Laws.{has_name-from_Contains}
-use Rattle.tmem_tree.specs.declared.shape.Shape.{Shape}
-use Rattle.tmem_tree.specs.Shapes.{AreMeant, AreWithin, names_of}
+use Rattle.tmem_tree.specs.declared.signature.Signature.{Signature}
+use Rattle.tmem_tree.specs.Signatures.{AreMeant, AreWithin, names_of}
 
 -- the values of a test that failed are as many as the footprint has variables
 pub some_filled : (found : Option (List ℤ)) (values : List ℤ) (name asked : List ℕ) (footprint : List ℕ → List ℕ) → IfSome found (λ v. (v ≡ values) × (name ≡ asked)) → length values ≡ length (footprint name)
@@ -20,18 +20,18 @@ pub some_filled : (found : Option (List ℤ)) (values : List ℤ) (name asked : 
 some_filled None values name asked footprint is filled = tt
 some_filled (Some v) values name asked footprint is filled = ap length is.0 ∙ (filled ∙ ap (λ (n : List ℕ). length (footprint n)) is.1)
 
--- a shape among those of a program has a name of it, and the footprint that it means
-pub named_among : (shapes : List Shape) (shape : Shape) (names : List (List ℕ)) → Contains shapes shape → names_of shapes ≡ names → has_name names shape.name ≡ true
-named_among shapes shape names there same =
-    let among : Contains (names_of shapes) shape.name =
-    (there.0, subst (λ n. there.0 < n) (sym (length-map shapes (λ (s : Shape). s.name))) there.1, get_or-map (λ (s : Shape). s.name) shapes there.0 shape shape.name there.1 ∙ ap (λ (s : Shape). s.name) there.2) in
-    subst (λ (ns : List (List ℕ)). has_name ns shape.name ≡ true) same (has_name-from_Contains (names_of shapes) shape.name among)
+-- a signature among those of a program has a name of it, and the footprint that it means
+pub named_among : (signatures : List Signature) (signature : Signature) (names : List (List ℕ)) → Contains signatures signature → names_of signatures ≡ names → has_name names signature.name ≡ true
+named_among signatures signature names there same =
+    let among : Contains (names_of signatures) signature.name =
+    (there.0, subst (λ n. there.0 < n) (sym (length-map signatures (λ (s : Signature). s.name))) there.1, get_or-map (λ (s : Signature). s.name) signatures there.0 signature signature.name there.1 ∙ ap (λ (s : Signature). s.name) there.2) in
+    subst (λ (ns : List (List ℕ)). has_name ns signature.name ≡ true) same (has_name-from_Contains (names_of signatures) signature.name among)
 
-pub meant_among : (tests : Meanings) (shapes : List Shape) (shape : Shape) → AreMeant tests shapes → Contains shapes shape → shape.footprint ≡ tests.footprint shape.name
-meant_among tests shapes shape meant among = All-contains (λ (s : Shape). s.footprint ≡ tests.footprint s.name) shapes shape meant among
+pub meant_among : (tests : Meanings) (signatures : List Signature) (signature : Signature) → AreMeant tests signatures → Contains signatures signature → signature.footprint ≡ tests.footprint signature.name
+meant_among tests signatures signature meant among = All-contains (λ (s : Signature). s.footprint ≡ tests.footprint s.name) signatures signature meant among
 
-pub below_among : (vars least : ℕ) (shapes : List Shape) (shape : Shape) → vars ≡ least → AreWithin vars shapes → Contains shapes shape → AreBelow least shape.footprint
-below_among vars least shapes shape same within among = subst (λ (n : ℕ). AreBelow n shape.footprint) same (All-contains (λ (s : Shape). AreBelow vars s.footprint) shapes shape within among)
+pub below_among : (vars least : ℕ) (signatures : List Signature) (signature : Signature) → vars ≡ least → AreWithin vars signatures → Contains signatures signature → AreBelow least signature.footprint
+below_among vars least signatures signature same within among = subst (λ (n : ℕ). AreBelow n signature.footprint) same (All-contains (λ (s : Signature). AreBelow vars s.footprint) signatures signature within among)
 
 -- values that are told with their variables are those at the end
 pub end_values : (values : List ℤ) (writes : List (ℕ × ℤ)) (vars : List ℕ) (ends : List ℤ) (seen : List (ℕ × ℤ)) → keys_of seen ≡ vars → map (λ (v : ℕ × ℤ). v.1) seen ≡ ends

@@ -11,7 +11,7 @@ use Rattle.tmem_state.specs.contracts.batch.Batch.{the_row as batch_row}
 use Rattle.tmem_state.specs.contracts.state.State.{the_row as state_row}
 use Rattle.tmem_invariants.specs.declared.named.Invariants.{Ghosts as TestGhosts}
 use Rattle.tmem_tree.specs.declared.steps.StoredSteps.{Ghosts as StepGhosts}
-use Rattle.tmem_tree.specs.contracts.shape.Shape.{the_row as shape_row}
+use Rattle.tmem_tree.specs.contracts.signature.Signature.{the_row as signature_row}
 use Rattle.tmem_core.specs.contracts.waiting.Waiting.{the_row as waiting_row}
 use Rattle.tmem_spine.specs.declared.naming.Naming.{Ghosts as NameGhosts}
 use Rattle.tmem_spine.specs.contracts.seats.CoreSide.{the_row as core_side_row}
@@ -29,8 +29,8 @@ use Rattle.tmem_front.specs.contracts.pool.Pool.{the_row as pool_row}
 use Rattle.std.specs.contracts.sync.Condvar.{the_row as condvar_row}
 use Rattle.tmem_front.specs.contracts.front.Front.{the_row, the_type}
 
-shape_sync : IsSync shape_row
-shape_sync = search (sendable, crosses) depth 40 fits 4000
+signature_sync : IsSync signature_row
+signature_sync = search (sendable, crosses) depth 40 fits 4000
 
 condvar_sync : IsSync condvar_row
 condvar_sync = search (sendable, crosses) depth 40 fits 4000
@@ -82,4 +82,4 @@ module _ (D N T S : RattleType) (d : DiskGhosts D.Denot) (s : StoreGhosts N.Deno
       let journal = journal_send a b in
       let pool = pool_send b in
       let whole = the_type D N T S d s n p i st in
-      recorded_sync _ whole.D whole.to whole.to_one (struct_sync (shape whole) (search (sendable, crosses) depth 20, (search (sendable, crosses), (f', (search (sendable, crosses, shape_sync) depth 20, (spine_sync N n, (brief_lock_sync (core_row N T i s n p) core, (search (sendable, crosses, condvar_sync) depth 20, (search (crosses, journal), (search (crosses, pool), (search (sendable, crosses) depth 20, tt)))))))))))
+      recorded_sync _ whole.D whole.to whole.to_one (struct_sync (shape whole) (search (sendable, crosses) depth 20, (search (sendable, crosses), (f', (search (sendable, crosses, signature_sync) depth 20, (spine_sync N n, (brief_lock_sync (core_row N T i s n p) core, (search (sendable, crosses, condvar_sync) depth 20, (search (crosses, journal), (search (crosses, pool), (search (sendable, crosses) depth 20, tt)))))))))))

@@ -1,7 +1,7 @@
 // How an attempt is settled under the core's lock.
 ghost use Rattle.std.specs.Prelude.{◌≡◌, ◌≢◌, false, Err, length};
 ghost use Rattle.tmem_core.specs.Decisions.{answer_of, RetriesAt};
-ghost use Rattle.tmem_core.specs.SettleAnswer.{is_stale};
+ghost use Rattle.tmem_core.specs.SettleAnswer.{has_changed};
 ghost use Rattle.tmem_spine.specs.History.{count};
 ghost use Rattle.tmem_tentative.specs.Fits.{IsForVariables, IsForNames};
 ghost use Rattle.tmem_seats.specs.Histories.{state_after_history};
@@ -24,7 +24,7 @@ pub(crate) fn decide<N: StoreNaming, T: Invariants + Drop>(
     requires variables { IsForVariables (length N.opening.values) attempt.now }
     requires names { IsForNames N.program.names attempt.now }
     ensures settled { SettlesPass N.name.start N.opening N.program attempt.now seat.old (answer_of result attempt.now.registers) seat.new }
-    ensures present { is_stale (state_after_history N.opening core.old.committed) attempt.now.reads.entries ≡ false → result ≢ Err Fault.Conflict }
+    ensures present { has_changed (state_after_history N.opening core.old.committed) attempt.now.reads.entries ≡ false → result ≢ Err Fault.Conflict }
     ensures retries { RetriesAt (count N.name.start core.new.committed) result }
 {
     core.decide(spine, seat, attempt)

@@ -8,13 +8,13 @@ ghost use Rattle.tmem_effect.specs.Names.{has_name};
 ghost use Rattle.tmem_tentative.specs.Fits.{IsForVariables, IsForNames};
 ghost use Rattle.tmem_tentative.specs.Right.{IsRight};
 ghost use Rattle.tmem_tentative.specs.Cursors.{HasEnded, attempt_of};
-ghost use Rattle.tmem_tree.specs.Plans.{BreaksNone, IsLeastBroken, IsShortTx, FitsSteps, FitsVariables, FitsNames, FitsShapes};
-ghost use Rattle.tmem_tree.specs.Shapes.{AreMeant, AreWithin, names_of};
+ghost use Rattle.tmem_tree.specs.Plans.{BreaksNone, IsLeastBroken, IsShortTx, FitsSteps, FitsVariables, FitsNames, FitsSignatures};
+ghost use Rattle.tmem_tree.specs.Signatures.{AreMeant, AreWithin, names_of};
 ghost use Rattle.tmem_tree.specs.StepAnswers.{StepMeanings};
 ghost use Rattle.tmem_spine.specs.History.{count, longer};
 ghost use Rattle.tmem_spine.specs.Views.{new_pass};
 ghost use Rattle.tmem_spine.specs.declared.spine.TheConstants.{MOST_PASSES};
-ghost use Rattle.tmem_core.specs.SettleAnswer.{is_stale};
+ghost use Rattle.tmem_core.specs.SettleAnswer.{has_changed};
 ghost use Rattle.tmem_seats.specs.Histories.{state_after_history, IsLeftOpen, IsPossibleValue};
 ghost use Rattle.tmem_seats.specs.Settling.{SettlesPass, SettlesPlan};
 
@@ -33,7 +33,7 @@ use tmem_invariants::Invariants;
 use tmem_seats::{CoreSeat, Failure, JournalSeat, LogCounts, Pass, StoreNaming, with_registers};
 use tmem_spine::{PassSide, Spine};
 use tmem_tentative::{Attempt, Cursor, Probe, Progress};
-use tmem_tree::{Plan, Shape, StoredSteps, Tx};
+use tmem_tree::{Plan, Signature, StoredSteps, Tx};
 
 /// A store that threads share. A pass is used with its own front, and a plan or an attempt with the front that made it.
 pub struct Front<D: Disk, N: StoreNaming, T: Invariants, S: StoredSteps> {
@@ -41,7 +41,7 @@ pub struct Front<D: Disk, N: StoreNaming, T: Invariants, S: StoredSteps> {
     pub(crate) vars: u16,
     pub(crate) steps: S,
     // what a plan has to know of the invariants, in the table's order
-    pub(crate) shapes: Vec<Shape>,
+    pub(crate) signatures: Vec<Signature>,
     pub(crate) spine: Spine<N>,
     pub(crate) core: BriefLock<CoreSeat<N, T>>,
     // what is waited for under the core's lock; all are told where the front is shut
@@ -55,11 +55,11 @@ pub struct Front<D: Disk, N: StoreNaming, T: Invariants, S: StoredSteps> {
     pub ghost over: { vars ≡ length N.opening.values },
 
     /// The names are the program's.
-    pub ghost named: { names_of shapes.items ≡ N.program.names },
+    pub ghost named: { names_of signatures.items ≡ N.program.names },
 
     /// Each has the footprint that the program means, over the variables that are there.
-    pub ghost meant: { AreMeant N.program.tests shapes.items },
-    pub ghost within: { AreWithin vars shapes.items },
+    pub ghost meant: { AreMeant N.program.tests signatures.items },
+    pub ghost within: { AreWithin vars signatures.items },
 
     /// The steps answer what they mean.
     pub ghost stated: { ∥ S.is_stated steps N.program.steps ∥₁ },
@@ -73,7 +73,7 @@ impl<D: Disk + Drop, N: StoreNaming, T: Invariants + Drop, S: StoredSteps + Drop
             alloc: _alloc,
             vars: _vars,
             steps: _steps,
-            shapes: _shapes,
+            signatures: _signatures,
             spine: _spine,
             core: _core,
             conditions: _conditions,
@@ -115,7 +115,7 @@ impl<D: Disk + Drop, N: StoreNaming, T: Invariants + Drop, S: StoredSteps + Drop
         requires steps { FitsSteps (S.arities self.now.steps) plan.now.tree }
         requires variables { FitsVariables self.now.vars plan.now }
         requires names { FitsNames N.program.names plan.now.tree }
-        requires shapes { FitsShapes N.program.tests plan.now }
+        requires signatures { FitsSignatures N.program.tests plan.now }
         ensures right { (m : StepMeanings) → S.is_stated self.now.steps m → IfOk result (IsRight m N.program.tests plan.now.tree) }
         ensures variables { IfOk result (IsForVariables (length N.opening.values)) }
         ensures names { IfOk result (IsForNames N.program.names) }
@@ -150,7 +150,7 @@ impl<D: Disk + Drop, N: StoreNaming, T: Invariants + Drop, S: StoredSteps + Drop
         requires variables { IsForVariables (length N.opening.values) attempt.now }
         requires names { IsForNames N.program.names attempt.now }
         ensures settled { SettlesPass N.name.start N.opening N.program attempt.now seat.old result seat.new }
-        ensures present { is_stale (state_after_history N.opening (mutex_guard_value core.entry).committed) attempt.now.reads.entries ≡ false → result ≢ Err Fault.Conflict }
+        ensures present { has_changed (state_after_history N.opening (mutex_guard_value core.entry).committed) attempt.now.reads.entries ≡ false → result ≢ Err Fault.Conflict }
     {
         let decision = decide(&mut core, &self.spine, seat, attempt);
         self.unlock_and_wake(core, &decision, attempt);
@@ -180,7 +180,7 @@ impl<D: Disk + Drop, N: StoreNaming, T: Invariants + Drop, S: StoredSteps + Drop
         requires steps { FitsSteps (S.arities self.now.steps) plan.now.tree }
         requires variables { FitsVariables self.now.vars plan.now }
         requires names { FitsNames N.program.names plan.now.tree }
-        requires shapes { FitsShapes N.program.tests plan.now }
+        requires signatures { FitsSignatures N.program.tests plan.now }
         ensures settled { SettlesPlan N.name.start N.opening N.program plan.now.tree pass.old result pass.new }
         ensures short { IsShortTx plan.now.tree → result ≢ Err Fault.Conflict }
     {
@@ -202,7 +202,7 @@ impl<D: Disk + Drop, N: StoreNaming, T: Invariants + Drop, S: StoredSteps + Drop
         requires steps { FitsSteps (S.arities self.now.steps) plan.now.tree }
         requires variables { FitsVariables self.now.vars plan.now }
         requires names { FitsNames N.program.names plan.now.tree }
-        requires shapes { FitsShapes N.program.tests plan.now }
+        requires signatures { FitsSignatures N.program.tests plan.now }
         ensures settled { SettlesPlan N.name.start N.opening N.program plan.now.tree seat.old result seat.new }
         ensures no_conflict { result ≢ Err Fault.Conflict }
     {
@@ -222,7 +222,7 @@ impl<D: Disk + Drop, N: StoreNaming, T: Invariants + Drop, S: StoredSteps + Drop
         requires steps { FitsSteps (S.arities self.now.steps) plan.now.tree }
         requires variables { FitsVariables self.now.vars plan.now }
         requires names { FitsNames N.program.names plan.now.tree }
-        requires shapes { FitsShapes N.program.tests plan.now }
+        requires signatures { FitsSignatures N.program.tests plan.now }
         ensures ended { IfOk result (λ _. HasEnded cursor.new) }
         ensures right { (m : StepMeanings) → S.is_stated self.now.steps m → IfOk result (λ _. IsRight m N.program.tests plan.now.tree (attempt_of cursor.new)) }
         ensures variables { IfOk result (λ _. IsForVariables (length N.opening.values) (attempt_of cursor.new)) }
@@ -378,10 +378,10 @@ impl<D: Disk + Drop, N: StoreNaming, T: Invariants + Drop, S: StoredSteps + Drop
         ensures steps { IfOk result (λ plan. FitsSteps (S.arities self.now.steps) plan.tree) }
         ensures variables { IfOk result (FitsVariables self.now.vars) }
         ensures names { IfOk result (λ plan. FitsNames N.program.names plan.tree) }
-        ensures shapes { IfOk result (FitsShapes N.program.tests) }
+        ensures signatures { IfOk result (FitsSignatures N.program.tests) }
         ensures least { IfErr result (λ fault. (cause : Cause) × (fault ≡ Fault.BadPlan cause) × IsLeastBroken (S.arities self.now.steps) self.now.vars N.program.names tx cause) }
     {
-        Plan::new(tx, &self.steps, self.vars, &self.shapes)
+        Plan::new(tx, &self.steps, self.vars, &self.signatures)
     }
 
     /// The device, once nobody uses the store any more. Every crash leaves the state after a history of the store, or after it and
@@ -393,7 +393,7 @@ impl<D: Disk + Drop, N: StoreNaming, T: Invariants + Drop, S: StoredSteps + Drop
             alloc: _alloc,
             vars: _vars,
             steps: _steps,
-            shapes: _shapes,
+            signatures: _signatures,
             spine: _spine,
             core: _core,
             conditions: _conditions,

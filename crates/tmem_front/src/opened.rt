@@ -116,7 +116,7 @@ impl<D: Disk + Drop, T: Invariants + Drop, S: StoredSteps + Drop> OpenedFront<D,
             core,
             journal,
             batch,
-            shapes,
+            signatures,
         } = opening;
         let vars = journal.layout().vars;
         let (spine, core_side, journal_side) = spine.named::<N>();
@@ -124,7 +124,7 @@ impl<D: Disk + Drop, T: Invariants + Drop, S: StoredSteps + Drop> OpenedFront<D,
             alloc,
             vars,
             steps,
-            shapes,
+            signatures,
             spine,
             core: BriefLock::new(CoreSeat::new(core, core_side)),
             conditions,

@@ -24,12 +24,12 @@ pub(crate) struct Pool<N: Naming> {
     pub(crate) owned: usize,
     // nobody waits for one any more
     pub(crate) is_closed: bool,
-    // how often whoever waits for one has looked
+    // how often whoever waits for one has tried
     pub(crate) tries: u64,
 }
 
 impl<N: Naming> Pool<N> {
-    // Whether nobody waits any more. The look is counted.
+    // Whether nobody waits any more. The try is counted.
     fn has_ended(&mut self) -> bool
         ensures ended { result ≡ self.new.is_closed }
         ensures same { self.new ≡ record self.old { tries = self.new.tries } }

@@ -5,8 +5,8 @@ ghost use Rattle.std.specs.Map.{keys_of};
 ghost use Rattle.tmem_effect.specs.Names.{has_name};
 ghost use Rattle.tmem_invariants.specs.TableNames.{AreBelow};
 ghost use Rattle.tmem_tentative.specs.Cursors.{HasEnded};
-ghost use Rattle.tmem_tree.specs.Plans.{FitsSteps, FitsVariables, FitsNames, FitsShapes};
-ghost use Rattle.tmem_tree.specs.Shapes.{names_of};
+ghost use Rattle.tmem_tree.specs.Plans.{FitsSteps, FitsVariables, FitsNames, FitsSignatures};
+ghost use Rattle.tmem_tree.specs.Signatures.{names_of};
 ghost use Rattle.tmem_seats.specs.Histories.{state_after_history};
 ghost use Rattle.tmem_seats.specs.Refusing.{IsFalseOn, AreEndValues, end_value};
 ghost use Rattle.tmem_seats.specs.Settling.{KnowsMore};
@@ -20,7 +20,7 @@ use tmem_fault::{Fault, Name};
 use tmem_invariants::Invariants;
 use tmem_seats::{CoreSeat, Pass, StoreNaming};
 use tmem_tentative::{Attempt, Cursor, Probe, Progress, Values};
-use tmem_tree::{Plan, Shape, StoredSteps};
+use tmem_tree::{Plan, Signature, StoredSteps};
 
 impl<D: Disk + Drop, N: StoreNaming, T: Invariants + Drop, S: StoredSteps + Drop> Front<
     D,
@@ -41,7 +41,7 @@ impl<D: Disk + Drop, N: StoreNaming, T: Invariants + Drop, S: StoredSteps + Drop
         requires steps { FitsSteps (S.arities self.now.steps) plan.now.tree }
         requires variables { FitsVariables self.now.vars plan.now }
         requires names { FitsNames N.program.names plan.now.tree }
-        requires shapes { FitsShapes N.program.tests plan.now }
+        requires signatures { FitsSignatures N.program.tests plan.now }
         ensures why { IfOk result (λ found. IfSome found (λ values. IsFalseOn N.program.tests name.now values.items)) }
         ensures knows { KnowsMore pass.old pass.new }
         ensures memory { IfErr result (λ fault. fault ≡ Fault.Memory) }
@@ -49,14 +49,14 @@ impl<D: Disk + Drop, N: StoreNaming, T: Invariants + Drop, S: StoredSteps + Drop
         let mut held = self.core.lock(rt);
         let core = &mut *held;
         let _count = core.meet(&self.spine, &mut pass.seat);
-        let Some(shape) = shape_of(&self.shapes, name) else {
+        let Some(signature) = signature_of(&self.signatures, name) else {
             return Ok(None);
         };
         let values = match self.last_test(rt, core, &mut pass.cursor, plan, name)? {
             Some(values) => values,
-            None => at_end(core, &pass.cursor.attempt().effect.writes, shape),
+            None => at_end(core, &pass.cursor.attempt().effect.writes, signature),
         };
-        self.told_where_false(core, shape, values)
+        self.told_where_false(core, signature, values)
     }
 
     /// The same of an attempt that was made elsewhere and ended normally: what its end makes of the footprint.
@@ -75,11 +75,11 @@ impl<D: Disk + Drop, N: StoreNaming, T: Invariants + Drop, S: StoredSteps + Drop
         let mut held = self.core.lock(rt);
         let core = &mut *held;
         let _count = core.meet(&self.spine, &mut pass.seat);
-        let Some(shape) = shape_of(&self.shapes, name) else {
+        let Some(signature) = signature_of(&self.signatures, name) else {
             return Ok(None);
         };
-        let values = at_end(core, &attempt.effect.writes, shape);
-        self.told_where_false(core, shape, values)
+        let values = at_end(core, &attempt.effect.writes, signature);
+        self.told_where_false(core, signature, values)
     }
 
     // Evaluates a plan in place, from its start to its end. Answers the values of the test that left it, where one of the invariant of
@@ -95,7 +95,7 @@ impl<D: Disk + Drop, N: StoreNaming, T: Invariants + Drop, S: StoredSteps + Drop
         requires steps { FitsSteps (S.arities self.now.steps) plan.now.tree }
         requires variables { FitsVariables self.now.vars plan.now }
         requires names { FitsNames N.program.names plan.now.tree }
-        requires shapes { FitsShapes N.program.tests plan.now }
+        requires signatures { FitsSignatures N.program.tests plan.now }
         ensures ended { IfOk result (λ _. HasEnded cursor.new) }
         ensures filled { IfOk result (λ found. IfSome found (λ values. length values ≡ length (N.program.tests.footprint name.now))) }
         ensures memory { IfErr result (λ fault. fault ≡ Fault.Memory) }
@@ -123,34 +123,34 @@ impl<D: Disk + Drop, N: StoreNaming, T: Invariants + Drop, S: StoredSteps + Drop
     fn told_where_false(
         &self,
         core: &CoreSeat<N, T>,
-        shape: &Shape,
+        signature: &Signature,
         values: Values,
     ) -> Result<Option<Vec<(u16, i64)>>, Fault>
-        requires named { has_name N.program.names shape.now.name ≡ true }
-        requires meant { shape.now.footprint ≡ N.program.tests.footprint shape.now.name }
-        requires filled { length values ≡ length shape.now.footprint }
-        ensures why { IfOk result (λ found. IfSome found (λ pairs. IsFalseOn N.program.tests shape.now.name pairs.items)) }
+        requires named { has_name N.program.names signature.now.name ≡ true }
+        requires meant { signature.now.footprint ≡ N.program.tests.footprint signature.now.name }
+        requires filled { length values ≡ length signature.now.footprint }
+        ensures why { IfOk result (λ found. IfSome found (λ pairs. IsFalseOn N.program.tests signature.now.name pairs.items)) }
         ensures same { IfOk result (λ found. IfSome found (λ pairs. map (λ pair. pair.1) pairs.items ≡ values)) }
         ensures memory { IfErr result (λ fault. fault ≡ Fault.Memory) }
     {
         let probe = Probe {
-            name: shape.name,
+            name: signature.name,
             values,
         };
         if core.probe(&probe) {
             return Ok(None);
         }
-        let vars = shape.footprint.as_slice();
+        let vars = signature.footprint.as_slice();
         Ok(Some(paired(self.alloc, vars, probe.values.as_slice())?))
     }
 }
 
-// The shape of a name, where there is one.
-fn shape_of<'a>(shapes: &'a [Shape], name: &Name) -> Option<&'a Shape>
-    ensures named { IfSome result (λ shape. shape.now.name ≡ name.now) }
-    ensures among { IfSome result (λ shape. Contains shapes.now shape.now) }
+// The signature of a name, where there is one.
+fn signature_of<'a>(signatures: &'a [Signature], name: &Name) -> Option<&'a Signature>
+    ensures named { IfSome result (λ signature. signature.now.name ≡ name.now) }
+    ensures among { IfSome result (λ signature. Contains signatures.now signature.now) }
 {
-    shapes.iter().find(|shape| shape.name == *name)
+    signatures.iter().find(|signature| signature.name == *name)
 }
 
 // What a test saw that failed, where it is of the invariant of this name.
@@ -169,14 +169,14 @@ fn failed_values(held: bool, probe: &Probe, name: &Name) -> Option<Values>
 fn at_end<N: StoreNaming, T: Invariants + Drop>(
     core: &CoreSeat<N, T>,
     writes: &Writes,
-    shape: &Shape,
+    signature: &Signature,
 ) -> Values
-    requires { AreBelow (length N.opening.values) shape.now.footprint }
-    ensures filled { length result ≡ length shape.now.footprint }
-    ensures values { map (λ n. Some n) result ≡ map (λ var. end_value (state_after_history N.opening core.now.committed).values writes.now var) shape.now.footprint }
+    requires { AreBelow (length N.opening.values) signature.now.footprint }
+    ensures filled { length result ≡ length signature.now.footprint }
+    ensures values { map (λ n. Some n) result ≡ map (λ var. end_value (state_after_history N.opening core.now.committed).values writes.now var) signature.now.footprint }
 {
     let mut values = Values::new();
-    for var in shape.footprint.as_slice() {
+    for var in signature.footprint.as_slice() {
         values.push(value_at_end(core, writes, *var));
     }
     values

@@ -2,9 +2,9 @@
 ghost use Rattle.std.specs.Prelude.{ℕ, ℤ, List, ◌≡◌, ◌≢◌, ◌⊎◌, ◌<◌, ◌≤◌, true, false, [], Ok, Err, IfOk, IfErr, OnOk, length, IsTrue};
 ghost use Rattle.tmem_effect.specs.declared.effect.Effect.{Effect as EffectOf};
 ghost use Rattle.tmem_core.specs.Decisions.{answer_of, RetriesAt};
-ghost use Rattle.tmem_core.specs.SettleAnswer.{committed_by, is_stale};
+ghost use Rattle.tmem_core.specs.SettleAnswer.{committed_by, has_changed};
 ghost use Rattle.tmem_effect.specs.Prefix.{IsPrefix};
-ghost use Rattle.tmem_tree.specs.Plans.{IsShortTx, FitsSteps, FitsVariables, FitsNames, FitsShapes};
+ghost use Rattle.tmem_tree.specs.Plans.{IsShortTx, FitsSteps, FitsVariables, FitsNames, FitsSignatures};
 ghost use Rattle.tmem_tentative.specs.Cursors.{HasEnded, attempt_of};
 ghost use Rattle.tmem_tentative.specs.Fits.{IsForVariables, IsForNames};
 ghost use Rattle.tmem_spine.specs.History.{count};
@@ -63,7 +63,7 @@ impl<D: Disk + Drop, N: StoreNaming, T: Invariants + Drop, S: StoredSteps + Drop
         requires steps { FitsSteps (S.arities self.now.steps) plan.now.tree }
         requires variables { FitsVariables self.now.vars plan.now }
         requires names { FitsNames N.program.names plan.now.tree }
-        requires shapes { FitsShapes N.program.tests plan.now }
+        requires signatures { FitsSignatures N.program.tests plan.now }
         ensures settled { SettlesAtLast N.name.start N.opening N.program plan.now.tree pass.old result pass.new }
         ensures no_conflict { result ≢ Err Fault.Conflict }
         ensures no_retry { result ≢ Ok Settled.Retry }
@@ -82,7 +82,7 @@ impl<D: Disk + Drop, N: StoreNaming, T: Invariants + Drop, S: StoredSteps + Drop
         requires steps { FitsSteps (S.arities self.now.steps) plan.now.tree }
         requires variables { FitsVariables self.now.vars plan.now }
         requires names { FitsNames N.program.names plan.now.tree }
-        requires shapes { FitsShapes N.program.tests plan.now }
+        requires signatures { FitsSignatures N.program.tests plan.now }
         ensures settled { SettlesAtLast N.name.start N.opening N.program plan.now.tree pass.old result pass.new }
         ensures no_conflict { result ≢ Err Fault.Conflict }
         ensures no_retry { result ≢ Ok Settled.Retry }
@@ -104,7 +104,7 @@ impl<D: Disk + Drop, N: StoreNaming, T: Invariants + Drop, S: StoredSteps + Drop
         requires steps { FitsSteps (S.arities self.now.steps) plan.now.tree }
         requires variables { FitsVariables self.now.vars plan.now }
         requires names { FitsNames N.program.names plan.now.tree }
-        requires shapes { FitsShapes N.program.tests plan.now }
+        requires signatures { FitsSignatures N.program.tests plan.now }
         ensures settled { SettlesAtLast N.name.start N.opening N.program plan.now.tree pass.old result pass.new }
         ensures no_conflict { result ≢ Err Fault.Conflict }
         ensures no_retry { (P.ends patience.now → ⊥) → result ≢ Ok Settled.Retry }
@@ -141,7 +141,7 @@ impl<D: Disk + Drop, N: StoreNaming, T: Invariants + Drop, S: StoredSteps + Drop
         requires steps { FitsSteps (S.arities self.now.steps) plan.now.tree }
         requires variables { FitsVariables self.now.vars plan.now }
         requires names { FitsNames N.program.names plan.now.tree }
-        requires shapes { FitsShapes N.program.tests plan.now }
+        requires signatures { FitsSignatures N.program.tests plan.now }
         ensures settled { SettlesPlan N.name.start N.opening N.program plan.now.tree seat.old (answer_of result (attempt_of cursor.new).registers) seat.new }
         ensures ended { IfOk result (λ _. HasEnded cursor.new) }
         ensures short { IsShortTx plan.now.tree → result ≢ Err Fault.Conflict }
@@ -169,7 +169,7 @@ impl<D: Disk + Drop, N: StoreNaming, T: Invariants + Drop, S: StoredSteps + Drop
         requires variables { IsForVariables (length N.opening.values) attempt.now }
         requires names { IsForNames N.program.names attempt.now }
         ensures settled { SettlesPass N.name.start N.opening N.program attempt.now seat.old (answer_of result attempt.now.registers) seat.new }
-        ensures present { is_stale (state_after_history N.opening (mutex_guard_value core.entry).committed) attempt.now.reads.entries ≡ false → result ≢ Err Fault.Conflict }
+        ensures present { has_changed (state_after_history N.opening (mutex_guard_value core.entry).committed) attempt.now.reads.entries ≡ false → result ≢ Err Fault.Conflict }
     {
         let decision = decide(&mut core, &self.spine, seat, attempt);
         self.wait_or_wake(rt, patience, core, &decision, attempt, how);
@@ -212,7 +212,7 @@ impl<D: Disk + Drop, N: StoreNaming, T: Invariants + Drop, S: StoredSteps + Drop
         requires steps { FitsSteps (S.arities self.now.steps) plan.now.tree }
         requires variables { FitsVariables self.now.vars plan.now }
         requires names { FitsNames N.program.names plan.now.tree }
-        requires shapes { FitsShapes N.program.tests plan.now }
+        requires signatures { FitsSignatures N.program.tests plan.now }
         ensures settled { SettlesPlan N.name.start N.opening N.program plan.now.tree seat.old (answer_of result (attempt_of cursor.new).registers) seat.new }
         ensures ended { IfOk result (λ _. HasEnded cursor.new) }
         ensures no_conflict { result ≢ Err Fault.Conflict }

@@ -2,7 +2,7 @@
 ghost use Rattle.std.specs.Prelude.{◌≡◌, ◌≢◌, ◌<◌, ◌≤◌, Ok, Err, IfErr};
 ghost use Rattle.tmem_effect.specs.Prefix.{IsPrefix};
 ghost use Rattle.tmem_spine.specs.History.{count};
-ghost use Rattle.tmem_tree.specs.Plans.{FitsSteps, FitsVariables, FitsNames, FitsShapes};
+ghost use Rattle.tmem_tree.specs.Plans.{FitsSteps, FitsVariables, FitsNames, FitsSignatures};
 ghost use Rattle.tmem_seats.specs.Settling.{SettlesAtLast};
 
 use crate::front::Front;
@@ -45,7 +45,7 @@ impl<D: Disk + Drop, N: StoreNaming, T: Invariants + Drop, S: StoredSteps + Drop
         requires steps { FitsSteps (S.arities self.now.steps) plan.now.tree }
         requires variables { FitsVariables self.now.vars plan.now }
         requires names { FitsNames N.program.names plan.now.tree }
-        requires shapes { FitsShapes N.program.tests plan.now }
+        requires signatures { FitsSignatures N.program.tests plan.now }
         ensures settled { SettlesAtLast N.name.start N.opening N.program plan.now.tree pass.old result pass.new }
         ensures no_conflict { result ≢ Err Fault.Conflict }
     {

@@ -7,7 +7,7 @@ use Rattle.tmem_disk.specs.Disk.{DeviceView, IsDevice, overwritten, ReadsAs, Lea
 use Rattle.tmem_disk.proofs.Laws.{SameOutside-refl, SameOutside-trans, SameOutside-wider, slice_get-before, slice_get-after, slice_range-before, slice_range-after, slice_range-overwritten, Rewritten-left, Rewritten-wider, Rewritten-trans, Elapses-more, Elapses-trans, before_or_since-trans}
 use Rattle.tmem_gate.specs.Gate.{IsOpenAt, IsClosed, HasBody, IsOpenOver, IsWhole}
 use Rattle.tmem_gate.specs.Calls.{OnlyReads, WritesWithin}
-use Rattle.tmem_gate.specs.Changes.{Outcome, WasMade, NotMade, InDoubt, NotBegun, Becomes, Meanwhile, Puts}
+use Rattle.tmem_gate.specs.Changes.{ChangeOutcome, WasMade, NotMade, InDoubt, NotBegun, Becomes, Meanwhile, Puts}
 
 -- a gate is open or closed
 pub gate_cases : (at : ℕ) (c : List ℕ) → IsOpenAt at c ⊎ IsClosed at c
@@ -167,13 +167,13 @@ WritesWithin-trans at n old mid new model first second = record {
     both k c from = Rewritten-trans at n old mid c (model k) first.crash from
 
 -- what becomes of a change that says more becomes of one that says less
-Becomes-more : (W V W' V' : List ℕ → List ℕ → Type 0) → ((b c : List ℕ) → W b c → W' b c) → ((b c : List ℕ) → V b c → V' b c) → (old : DeviceView) (o : Outcome) (c : List ℕ) → Becomes W V old o c → Becomes W' V' old o c
+Becomes-more : (W V W' V' : List ℕ → List ℕ → Type 0) → ((b c : List ℕ) → W b c → W' b c) → ((b c : List ℕ) → V b c → V' b c) → (old : DeviceView) (o : ChangeOutcome) (c : List ℕ) → Becomes W V old o c → Becomes W' V' old o c
 Becomes-more W V W' V' without with old WasMade c from = (from.0, from.1, with from.0 c from.2)
 Becomes-more W V W' V' without with old NotMade c from = (from.0, from.1, without from.0 c from.2)
 Becomes-more W V W' V' without with old InDoubt c from = (from.0, from.1, ⊎_elim (λ no. inl (without from.0 c no)) (λ yes. inr (with from.0 c yes)) from.2)
 Becomes-more W V W' V' without with old NotBegun c left = left
 
-Meanwhile-more : (W V W' V' : List ℕ → List ℕ → Type 0) → ((b c : List ℕ) → W b c → W' b c) → ((b c : List ℕ) → V b c → V' b c) → (old : DeviceView) (o : Outcome) (c : List ℕ) → Meanwhile W V old o c → Meanwhile W' V' old o c
+Meanwhile-more : (W V W' V' : List ℕ → List ℕ → Type 0) → ((b c : List ℕ) → W b c → W' b c) → ((b c : List ℕ) → V b c → V' b c) → (old : DeviceView) (o : ChangeOutcome) (c : List ℕ) → Meanwhile W V old o c → Meanwhile W' V' old o c
 Meanwhile-more W V W' V' without with old WasMade c from = Becomes-more W V W' V' without with old InDoubt c from
 Meanwhile-more W V W' V' without with old NotMade c from = Becomes-more W V W' V' without with old NotMade c from
 Meanwhile-more W V W' V' without with old InDoubt c from = Becomes-more W V W' V' without with old InDoubt c from
@@ -184,7 +184,7 @@ pub not_begun : (at n : ℕ) (W V : List ℕ → List ℕ → Type 0) (d : Devic
 not_begun at n W V d device = record { elsewhere = WritesWithin-refl at n d device; stands = record { each = λ k c left. left }; any_moment = record { each = λ k c left. device.only_now c k left } }
 
 -- so does a call that makes it, in a wider range
-pub Puts-more : (at n wide_at wide_n : ℕ) (W V W' V' : List ℕ → List ℕ → Type 0) (old new : DeviceView) (o : Outcome) → wide_at ≤ at → at + n ≤ wide_at + wide_n → ((b c : List ℕ) → W b c → W' b c) → ((b c : List ℕ) → V b c → V' b c)
+pub Puts-more : (at n wide_at wide_n : ℕ) (W V W' V' : List ℕ → List ℕ → Type 0) (old new : DeviceView) (o : ChangeOutcome) → wide_at ≤ at → at + n ≤ wide_at + wide_n → ((b c : List ℕ) → W b c → W' b c) → ((b c : List ℕ) → V b c → V' b c)
     → Puts at n W V old new o → Puts wide_at wide_n W' V' old new o
 Puts-more at n wide_at wide_n W V W' V' old new o low high without with puts = record {
   elsewhere = WritesWithin-wider at n wide_at wide_n low high old new puts.elsewhere;

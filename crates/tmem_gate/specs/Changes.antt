@@ -6,14 +6,14 @@ use Rattle.tmem_fault.specs.declared.fault.Fault.TheVariants.{Device, Unknown}
 use Rattle.tmem_gate.specs.Calls.{MadeBy, WritesWithin}
 
 -- What became of it: it is made; it is not; one of the two; or nothing was written for it.
-pub data Outcome : Type 0 where
-  WasMade : Outcome
-  NotMade : Outcome
-  InDoubt : Outcome
-  NotBegun : Outcome
+pub data ChangeOutcome : Type 0 where
+  WasMade : ChangeOutcome
+  NotMade : ChangeOutcome
+  InDoubt : ChangeOutcome
+  NotBegun : ChangeOutcome
 
 -- as a call answers it
-abbrev pub call_outcome : Result (Unit {0}) Fault → Outcome
+abbrev pub call_outcome : Result (Unit {0}) Fault → ChangeOutcome
 call_outcome (Ok x) = WasMade
 call_outcome (Err Device) = NotMade
 call_outcome (Err Unknown) = InDoubt
@@ -24,14 +24,14 @@ abbrev pub Either : (List ℕ → List ℕ → Type 0) → (List ℕ → List �
 Either Without With b c = Without b c ⊎ With b c
 
 -- what a crash leaves once a call has answered
-abbrev pub Becomes : (List ℕ → List ℕ → Type 0) → (List ℕ → List ℕ → Type 0) → DeviceView → Outcome → List ℕ → Type 0
+abbrev pub Becomes : (List ℕ → List ℕ → Type 0) → (List ℕ → List ℕ → Type 0) → DeviceView → ChangeOutcome → List ℕ → Type 0
 Becomes Without With old WasMade = MadeBy With old
 Becomes Without With old NotMade = MadeBy Without old
 Becomes Without With old InDoubt = MadeBy (Either Without With) old
 Becomes Without With old NotBegun = old.may_leave
 
 -- and what a crash leaves at a moment of the call
-abbrev pub Meanwhile : (List ℕ → List ℕ → Type 0) → (List ℕ → List ℕ → Type 0) → DeviceView → Outcome → List ℕ → Type 0
+abbrev pub Meanwhile : (List ℕ → List ℕ → Type 0) → (List ℕ → List ℕ → Type 0) → DeviceView → ChangeOutcome → List ℕ → Type 0
 Meanwhile Without With old WasMade = MadeBy (Either Without With) old
 Meanwhile Without With old NotMade = MadeBy Without old
 Meanwhile Without With old InDoubt = MadeBy (Either Without With) old
@@ -39,7 +39,7 @@ Meanwhile Without With old NotBegun = old.may_leave
 
 -- A call that makes a change in a range of n bytes, as its outcome is: nothing outside the range is written, and this is what a
 -- crash leaves after the call, and at each moment of it.
-pub record Puts (at n : ℕ) (Without With : List ℕ → List ℕ → Type 0) (old new : DeviceView) (o : Outcome) : Type 0 where
+pub record Puts (at n : ℕ) (Without With : List ℕ → List ℕ → Type 0) (old new : DeviceView) (o : ChangeOutcome) : Type 0 where
   pub elsewhere : WritesWithin at n old new
   pub stands : LeavesOnly new (Becomes Without With old o)
   pub any_moment : AtEachMoment old new (Meanwhile Without With old o)

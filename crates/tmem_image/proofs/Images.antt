@@ -3,7 +3,7 @@ use Rattle.std.proofs.Common.{◌+◌, ◌<◌, ◌∷◌, ◌++◌, ℕ, List, 
 use Rattle.tmem_gate.specs.Gate.{HasBody, IsOpenOver}
 use Rattle.tmem_record.specs.Layout.{image_at}
 use Rattle.tmem_record.specs.Spelling.{number_bytes}
-use Rattle.tmem_record.specs.Stale.{IsStale}
+use Rattle.tmem_record.specs.Stale.{IsClosedOrStale}
 use Rattle.tmem_record.specs.StandsAt.{StandsAt}
 use Rattle.tmem_effect.specs.State.{State}
 use Rattle.tmem_state.specs.Versions.{version_byte}
@@ -33,7 +33,7 @@ unfolding image_body
 front_of_image v vars generation at s c cell = front_of_body at (number_bytes 8 generation) (number_bytes 8 s.count ++ (names_body s.names ++ (version_byte v ∷ pages_body vars s.values))) c cell
 
 -- a copy that holds an image is stale only for a generation above the image's
-pub lesser_of : (v : Version) (vars copy generation later : ℕ) (s : State) (c : List ℕ) → HoldsImage v vars copy generation s c → IsStale later (image_at vars copy) c → generation < later
+pub lesser_of : (v : Version) (vars copy generation later : ℕ) (s : State) (c : List ℕ) → HoldsImage v vars copy generation s c → IsClosedOrStale later (image_at vars copy) c → generation < later
 lesser_of v vars copy generation later s c holds stale = below_stale generation later (image_at vars copy) c holds.number.fits (front_of_image v vars generation (image_at vars copy) s c holds.cell) stale
 
 pub one_image : OneImage

@@ -8,9 +8,9 @@ use Rattle.tmem_disk.proofs.Laws.{SameOutside-refl, SameOutside-trans, SameOutsi
 use Rattle.tmem_gate.specs.Gate.{IsOpenAt, IsClosed, StandsClosed, HasBody}
 use Rattle.tmem_gate.specs.Calls.{Uses, failures_after, OnlyReads, WritesWithin, MadeBy}
 use Rattle.tmem_gate.specs.Cells.{LeftClosed, LeftOpen}
-use Rattle.tmem_gate.specs.Changes.{Outcome, WasMade, NotMade, InDoubt, NotBegun, call_outcome, Becomes, Meanwhile, Puts}
+use Rattle.tmem_gate.specs.Changes.{ChangeOutcome, WasMade, NotMade, InDoubt, NotBegun, call_outcome, Becomes, Meanwhile, Puts}
 use Rattle.tmem_gate.proofs.Laws.{gate_cases, whole_after, closed_before, by_look, WritesWithin-wider, WritesWithin-trans}
-use Rattle.tmem_record.specs.Stale.{IsStale}
+use Rattle.tmem_record.specs.Stale.{IsClosedOrStale}
 use Rattle.tmem_effect.specs.State.{State}
 use Rattle.tmem_record.specs.Layout.{pages_of, image_at, image_size, end_at}
 use Rattle.tmem_record.specs.Spelling.{number_bytes}
@@ -24,10 +24,10 @@ use Rattle.tmem_image.proofs.Lengths.{length-header_body, length-pages_body}
 use Rattle.tmem_image.proofs.Loading.{copy_within}
 use Rattle.tmem_image.specs.Spelling.{names_body, header_body, pages_body, image_body, IsImage}
 use Rattle.tmem_image.specs.Image.{IsGeneration}
-use Rattle.tmem_image.specs.Spare.{ImagePlaced, IsSettled, Left, Spares, WithoutImage, WithImage}
+use Rattle.tmem_image.specs.Spare.{ImagePlaced, GateIsSynced, Left, Spares, WithoutImage, WithImage}
 
 -- an open gate that is written over leaves the cell as stale as it was
-stale_kept : (at generation : ℕ) (b c : List ℕ) → IsOpenAt at b → SameOutside at 1 b c → IsStale generation at b → IsStale generation at c
+stale_kept : (at generation : ℕ) (b c : List ℕ) → IsOpenAt at b → SameOutside at 1 b c → IsClosedOrStale generation at b → IsClosedOrStale generation at c
 stale_kept at generation b c opened same stale = ⊎_elim (λ closed. absurd (closed.not_open opened)) (λ lesser. ⊎_elim (λ shut. inl shut) (λ over. inr (lesser.0, lesser.1, over)) (whole_after at _ b c lesser.2.body same)) stale
 
 Left-refl : (at n : ℕ) (c : List ℕ) → Left at n c c
@@ -56,7 +56,7 @@ module _ (vars slots copy at capacity : ℕ) (offset : at ≡ image_at vars copy
   header_within header now long same = omega (arith, whole)
 
 -- a gate is closed that reads open
-module _ (old shut : DeviceView) (at : ℕ) (device : IsDevice old) (settled : IsSettled at old) (model : shut.keeps_model → old.keeps_model) (within : WritesWithin at 1 old shut) (idle : IsClosed at old.seen → OnlyReads old shut) where
+module _ (old shut : DeviceView) (at : ℕ) (device : IsDevice old) (settled : GateIsSynced at old) (model : shut.keeps_model → old.keeps_model) (within : WritesWithin at 1 old shut) (idle : IsClosed at old.seen → OnlyReads old shut) where
   shut_made : old.keeps_model → IsOpenAt at old.seen → (c : List ℕ) → Rewritten at 1 old c → MadeBy (Left at 1) old c
   shut_made k opened c from = (from.0, from.1, record { elsewhere = from.2; stale = λ generation. stale_kept at generation from.0 c (settled.each k from.0 from.1 ∙ opened) from.2 })
 
@@ -177,7 +177,7 @@ image_stands p header d it k c has same =
     subst (λ (body : List ℕ). HasBody at body c) it.whole (parts_stand at header pages c has (slice_range-after at (1 + length header) d.seen c (at + 1 + length header) (at + 1 + length header + length pages) (omega arith) same ∙ it.stand k))
 
 -- before the whole image was there
-by_then : (p : ImagePlaced) (old : DeviceView) (o : Outcome) → (o ≡ NotBegun → ⊥) → (c : List ℕ) → MadeBy (WithoutImage p) old c → Meanwhile (WithoutImage p) (WithImage p) old o c
+by_then : (p : ImagePlaced) (old : DeviceView) (o : ChangeOutcome) → (o ≡ NotBegun → ⊥) → (c : List ℕ) → MadeBy (WithoutImage p) old c → Meanwhile (WithoutImage p) (WithImage p) old o c
 by_then p old WasMade some c from = (from.0, from.1, inl from.2)
 by_then p old NotMade some c from = from
 by_then p old InDoubt some c from = (from.0, from.1, inl from.2)
@@ -185,7 +185,7 @@ by_then p old NotBegun some c from = absurd (some refl)
 
 -- the copy is closed over its pages, and then its header is put, a cell of its own
 module _ (p : ImagePlaced) (header : List ℕ) (number : IsGeneration p.generation) (fits : IsImage p.vars p.state) (old paged new : DeviceView) (device : IsDevice paged) (spares : Spares (image_at p.vars p.copy) (image_size p.vars) old paged)
-    (is_paged : IsPaged p header paged) (o : Outcome) (begun : o ≡ NotBegun → ⊥) (model : new.keeps_model → paged.keeps_model) where
+    (is_paged : IsPaged p header paged) (o : ChangeOutcome) (begun : o ≡ NotBegun → ⊥) (model : new.keeps_model → paged.keeps_model) where
   abbrev at : ℕ
   at = image_at p.vars p.copy
 
@@ -223,7 +223,7 @@ module _ (p : ImagePlaced) (header : List ℕ) (number : IsGeneration p.generati
   before : paged.keeps_model → (c : List ℕ) → paged.may_leave c → MadeBy (WithoutImage p) old c
   before = (spared_now at n old paged device spares).each
 
-  chained : paged.keeps_model → (P : Outcome) → (P ≡ NotBegun → ⊥) → (c : List ℕ) → Becomes No Yes paged P c → Becomes (WithoutImage p) (WithImage p) old P c
+  chained : paged.keeps_model → (P : ChangeOutcome) → (P ≡ NotBegun → ⊥) → (c : List ℕ) → Becomes No Yes paged P c → Becomes (WithoutImage p) (WithImage p) old P c
   chained k WasMade some c from = let was = before k from.0 from.1 in (was.0, was.1, yes k was.0 from.0 c was.2 from.2)
   chained k NotMade some c from = let was = before k from.0 from.1 in (was.0, was.1, no was.0 from.0 c was.2 from.2)
   chained k InDoubt some c from =
@@ -232,7 +232,7 @@ module _ (p : ImagePlaced) (header : List ℕ) (number : IsGeneration p.generati
   chained k NotBegun some c from = absurd (some refl)
 
   -- at a moment of it
-  since : paged.keeps_model → (P : Outcome) → (P ≡ NotBegun → ⊥) → (c : List ℕ) → Meanwhile No Yes paged P c → Meanwhile (WithoutImage p) (WithImage p) old P c
+  since : paged.keeps_model → (P : ChangeOutcome) → (P ≡ NotBegun → ⊥) → (c : List ℕ) → Meanwhile No Yes paged P c → Meanwhile (WithoutImage p) (WithImage p) old P c
   since k WasMade some c from = chained k InDoubt (λ is. cc) c from
   since k NotMade some c from = chained k NotMade (λ is. cc) c from
   since k InDoubt some c from = chained k InDoubt (λ is. cc) c from
@@ -254,7 +254,7 @@ module _ (p : ImagePlaced) (header : List ℕ) (number : IsGeneration p.generati
 pub spared : (p : ImagePlaced) (old new : DeviceView) → IsDevice new → Spares (image_at p.vars p.copy) (image_size p.vars) old new → (r : Result (Unit {0}) Fault) (f : Fault) → r ≡ Err f → (f ≡ Device) ⊎ (f ≡ Unknown)
     → Puts (image_at p.vars p.copy) (image_size p.vars) (WithoutImage p) (WithImage p) old new (call_outcome r)
 spared p old new device spares r f is which =
-    subst (λ (o : Outcome). Puts (image_at p.vars p.copy) (image_size p.vars) (WithoutImage p) (WithImage p) old new o) (sym (ap call_outcome is)) (⊎_elim
+    subst (λ (o : ChangeOutcome). Puts (image_at p.vars p.copy) (image_size p.vars) (WithoutImage p) (WithImage p) old new o) (sym (ap call_outcome is)) (⊎_elim
     (λ e. subst (λ (g : Fault). Puts (image_at p.vars p.copy) (image_size p.vars) (WithoutImage p) (WithImage p) old new (call_outcome (Err g))) (sym e) (record {
       elsewhere = spares.within;
       stands = spared_now (image_at p.vars p.copy) (image_size p.vars) old new device spares;

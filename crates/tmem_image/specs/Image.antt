@@ -1,7 +1,7 @@
 -- The two copies of an image, and which of them is chosen.
 use Rattle.std.specs.Prelude.{◌<◌, ◌≤◌, ◌-◌, ◌^◌, ℕ, List, Option, Some, None}
 use Rattle.tmem_gate.specs.Gate.{IsClosed, IsOpenOver}
-use Rattle.tmem_record.specs.Stale.{IsStale}
+use Rattle.tmem_record.specs.Stale.{IsClosedOrStale}
 use Rattle.tmem_effect.specs.State.{State}
 use Rattle.tmem_record.specs.Spelling.{number_bytes}
 use Rattle.tmem_record.specs.Layout.{image_at}
@@ -29,7 +29,7 @@ pub record IsChosen (vars copy generation : ℕ) (c : List ℕ) : Type 0 where
   pub one : copy ≤ 1
   pub fits : generation < 2 ^ 64
   pub cell : IsOpenOver (image_at vars copy) (number_bytes 8 generation) c
-  pub other : IsStale generation (image_at vars (other_copy copy)) c
+  pub other : IsClosedOrStale generation (image_at vars (other_copy copy)) c
 
 -- this copy is chosen, whatever its generation
 abbrev pub ChoosesCopy : ℕ → ℕ → List ℕ → Type 0

@@ -3,7 +3,7 @@ use Rattle.std.specs.Prelude.{◌≡◌, ℕ, List, slice_get}
 use Rattle.tmem_disk.specs.Disk.{DeviceView, SameOutside, SameSeenOutside, LeavesOnly, AtEachMoment}
 use Rattle.tmem_gate.specs.Calls.{MadeBy, WritesWithin}
 use Rattle.tmem_gate.specs.Gate.{HasBody}
-use Rattle.tmem_record.specs.Stale.{IsStale}
+use Rattle.tmem_record.specs.Stale.{IsClosedOrStale}
 use Rattle.tmem_effect.specs.State.{State}
 use Rattle.tmem_record.specs.Layout.{image_at, image_size}
 use Rattle.tmem_record.specs.declared.layout.Layout.{Layout}
@@ -21,23 +21,23 @@ pub record ImagePlaced : Type 0 where
 abbrev pub image_placed : Layout → ℕ → ℕ → State → ImagePlaced
 image_placed layout copy generation s = record { vars = layout.vars; copy = copy; generation = generation; state = s }
 
--- The second content is the first outside n bytes from an offset on, and the cell there is stale for each generation that it
--- was stale for.
+-- The second content is the first outside n bytes from an offset on, and the cell there is closed or stale for each
+-- generation that it was so for.
 pub record Left (at n : ℕ) (b c : List ℕ) : Type 0 where
   pub elsewhere : SameOutside at n b c
-  pub stale : (generation : ℕ) → IsStale generation at b → IsStale generation at c
+  pub stale : (generation : ℕ) → IsClosedOrStale generation at b → IsClosedOrStale generation at c
 
 -- every crash leaves the gate at an offset as a read gives it
-abbrev pub IsSettled : ℕ → DeviceView → Type 0
-IsSettled at d = LeavesOnly d (λ c. slice_get c at ≡ slice_get d.seen at)
+abbrev pub GateIsSynced : ℕ → DeviceView → Type 0
+GateIsSynced at d = LeavesOnly d (λ c. slice_get c at ≡ slice_get d.seen at)
 
 -- What calls do to the cell there that make it ready: nothing outside the n bytes is written, and a crash at each moment of them
--- leaves the cell as stale as it was.
+-- leaves the cell closed or stale, as it was.
 pub record Spares (at n : ℕ) (old new : DeviceView) : Type 0 where
   pub within : WritesWithin at n old new
   pub during : AtEachMoment old new (MadeBy (Left at n) old)
 
--- nothing outside the copy changes, and the copy is as stale as it was
+-- nothing outside the copy changes, and the copy is closed or stale, as it was
 abbrev pub WithoutImage : ImagePlaced → List ℕ → List ℕ → Type 0
 WithoutImage p b c = Left (image_at p.vars p.copy) (image_size p.vars) b c
 

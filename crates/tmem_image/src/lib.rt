@@ -3,7 +3,7 @@
 //! `specs/Image.antt` says which copy a content chooses: the open one of the greater generation. `choose` finds it, and
 //! `load` reads an image: the last byte of its header is that of the version of the format. `write_spare` writes one of version 2
 //! to the other copy, of its pages those that may differ there: a crash (a power cut or a kill) at any moment leaves that
-//! copy as stale as it was, or open over the whole new image.
+//! copy closed or stale, as it was, or open over the whole new image.
 #![tactic(auto)]
 
 mod choosing;

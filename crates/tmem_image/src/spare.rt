@@ -9,7 +9,7 @@ ghost use Rattle.tmem_record.specs.StandsAt.{StandsAt};
 ghost use Rattle.tmem_image.specs.Spelling.{pages_body, AreValues};
 ghost use Rattle.tmem_image.specs.Image.{IsGeneration};
 ghost use Rattle.tmem_image.specs.Pages.{HoldsOthers, pages_at};
-ghost use Rattle.tmem_image.specs.Spare.{IsSettled, Spares, image_placed, WithImage, WithoutImage, AwaitsGate};
+ghost use Rattle.tmem_image.specs.Spare.{GateIsSynced, Spares, image_placed, WithImage, WithoutImage, AwaitsGate};
 
 use crate::page_sets::has_page;
 use crate::spelling::{header_of, page_of};
@@ -39,7 +39,7 @@ pub fn write_spare<D: Disk>(
     requires one { copy ≤ 1 }
     requires number { IsGeneration generation }
     requires sized { length state.now.values ≡ layout.vars }
-    requires settled { IsSettled (image_at layout.vars copy) (D.view disk.old) }
+    requires settled { GateIsSynced (image_at layout.vars copy) (D.view disk.old) }
     requires others { LeavesOnly (D.view disk.old) (HoldsOthers (pages_at layout.vars copy) layout.vars pages state.now.values) }
     ensures uses { Uses (D.view disk.old) (D.view disk.new) result }
     ensures errors { IfErr result (λ f. (f ≡ Fault.Device) ⊎ (f ≡ Fault.Unknown)) }
@@ -48,7 +48,7 @@ pub fn write_spare<D: Disk>(
     ensures gate_write_failed { IsErrOf result Fault.Unknown → (D.view disk.new).last_fault ≡ Some DeviceFault.Write →
         AwaitsGate (image_placed layout copy generation state.now) (D.view disk.old) (D.view disk.new) }
 
-    // A crash leaves what one might have left before, with the image in that copy, or with that copy as stale as it was.
+    // A crash leaves what one might have left before, with the image in that copy, or with that copy closed or stale, as it was.
     // Nothing outside the copy is written.
     ensures puts { Puts (image_at layout.vars copy) (image_size layout.vars)
         (WithoutImage (image_placed layout copy generation state.now)) (WithImage (image_placed layout copy generation state.now))
@@ -74,7 +74,7 @@ pub fn write_spare<D: Disk>(
 // Closes the gate at an offset where it reads open, and syncs then.
 fn shut<D: Disk>(disk: &mut D, at: u64) -> Result<(), Fault>
     requires at { at < (D.view disk.old).capacity }
-    requires settled { IsSettled at (D.view disk.old) }
+    requires settled { GateIsSynced at (D.view disk.old) }
     ensures uses { Uses (D.view disk.old) (D.view disk.new) result }
     ensures errors { IfErr result (λ f. (f ≡ Fault.Device) ⊎ (f ≡ Fault.Unknown)) }
     ensures call_failed { IsErrOf result Fault.Device → IfSome (D.view disk.new).last_fault IsReadOrWrite }

@@ -6,7 +6,7 @@ use Rattle.tmem_disk.specs.Disk.{DeviceView, IsDevice, AtEachMoment, IsSynced}
 use Rattle.tmem_disk.proofs.Laws.{AtEachMoment-elapsed, either_time}
 use Rattle.tmem_gate.specs.Calls.{OnlyReads}
 use Rattle.tmem_gate.specs.Cells.{LeftClosed, LeftOpen}
-use Rattle.tmem_gate.specs.Changes.{Outcome, WasMade, NotMade, InDoubt, NotBegun, Meanwhile, Puts}
+use Rattle.tmem_gate.specs.Changes.{ChangeOutcome, WasMade, NotMade, InDoubt, NotBegun, Meanwhile, Puts}
 use Rattle.tmem_gate.specs.Gate.{IsClosed, IsOpenOver, StandsClosed}
 use Rattle.tmem_gate.proofs.Laws.{closed_by}
 use Rattle.tmem_init.specs.Placed.{IsBetween, IsBlankFor, IsNotHalf, LeftByMaking}
@@ -38,13 +38,13 @@ module _ (content : List ℕ) (some : 1 ≤ length content) (old mid : DeviceVie
 
   -- and while a cell is put there, it leaves that closed or whole
   module _ (bytes : List ℕ) (is : bytes ≡ drop 1 content) (new : DeviceView) (kept : new.keeps_model → mid.keeps_model) (closed : StandsClosed 0 mid) where
-    not_half : (k : new.keeps_model) (c : List ℕ) (o : Outcome) → Meanwhile (LeftClosed 0 (length bytes)) (LeftOpen 0 bytes mid.seen) mid o c → IsNotHalf content c
+    not_half : (k : new.keeps_model) (c : List ℕ) (o : ChangeOutcome) → Meanwhile (LeftClosed 0 (length bytes)) (LeftOpen 0 bytes mid.seen) mid o c → IsNotHalf content c
     not_half k c WasMade from = ⊎_elim (λ w. inl w.gate) (λ v. inr (subst (λ (l : List ℕ). IsOpenOver 0 l c) is v.cell)) from.2
     not_half k c NotMade from = inl (from.2).gate
     not_half k c InDoubt from = ⊎_elim (λ w. inl w.gate) (λ v. inr (subst (λ (l : List ℕ). IsOpenOver 0 l c) is v.cell)) from.2
     not_half k c NotBegun left = inl (closed.each (kept k) c left)
 
-    pub while_putting : (o : Outcome) → Puts 0 (1 + length bytes) (LeftClosed 0 (length bytes)) (LeftOpen 0 bytes mid.seen) mid new o → AtEachMoment old new (LeftByMaking content old)
+    pub while_putting : (o : ChangeOutcome) → Puts 0 (1 + length bytes) (LeftClosed 0 (length bytes)) (LeftOpen 0 bytes mid.seen) mid new o → AtEachMoment old new (LeftByMaking content old)
     while_putting o puts = record {
       each = λ k c left. ⊎_elim
           (λ was. while_looking.each (kept k) c was)

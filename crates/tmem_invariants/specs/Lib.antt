@@ -1,5 +1,5 @@
 pub mod Answers
-pub mod Chosen
+pub mod Joined
 pub mod Meanings
 pub mod Indices
 pub mod Shown

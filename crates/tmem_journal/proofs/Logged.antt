@@ -8,7 +8,7 @@ use Rattle.tmem_gate.specs.Gate.{IsClosed}
 use Rattle.tmem_gate.proofs.Laws.{closed_before, open_before}
 use Rattle.tmem_record.specs.Layout.{image_at, image_size, slot_at}
 use Rattle.tmem_record.specs.Spelling.{number_bytes}
-use Rattle.tmem_record.specs.Stale.{IsStale}
+use Rattle.tmem_record.specs.Stale.{IsClosedOrStale}
 use Rattle.tmem_effect.specs.State.{State, fold, StaysWithin}
 use Rattle.tmem_effect.specs.declared.effect.Effect.{Effect}
 use Rattle.tmem_state.specs.declared.version.Version.{Version}
@@ -46,7 +46,7 @@ fits_below : (p size n low at : ℕ) → p + size ≤ low → low ≤ at → 1 +
 fits_below p size n low at part front long = omega (arith, part, front, long)
 
 -- what is stale stays so where what was written stands behind it
-pub stale_before : (at n p generation : ℕ) (b c : List ℕ) → SameOutside at n b c → p + 1 + 8 ≤ at → IsStale generation p b → IsStale generation p c
+pub stale_before : (at n p generation : ℕ) (b c : List ℕ) → SameOutside at n b c → p + 1 + 8 ≤ at → IsClosedOrStale generation p b → IsClosedOrStale generation p c
 stale_before at n p generation b c same fits (inl closed) = inl (closed_before at n p b c same (omega (arith, fits)) closed)
 stale_before at n p generation b c same fits (inr it) = inr (it.0, it.1, open_before at n p (number_bytes 8 it.0) b c same (omega (arith, fits, length-number_bytes 8 it.0)) it.2)
 

@@ -6,7 +6,7 @@ use Rattle.tmem_gate.specs.Calls.{OnlyReads}
 use Rattle.tmem_gate.specs.Gate.{IsOpenOver}
 use Rattle.tmem_gate.proofs.Laws.{OnlyReads-trans}
 use Rattle.tmem_record.specs.Layout.{image_at}
-use Rattle.tmem_record.specs.Stale.{IsStale}
+use Rattle.tmem_record.specs.Stale.{IsClosedOrStale}
 use Rattle.tmem_effect.specs.State.{State}
 use Rattle.tmem_state.specs.Versions.{version_number}
 use Rattle.tmem_state.specs.declared.version.Version.{Version}
@@ -22,11 +22,11 @@ use Rattle.tmem_journal.proofs.Refused.{one_block}
 use Rattle.tmem_journal.proofs.Unique.{chosen_of}
 
 -- the other copy is stale for the image that the chosen one holds
-other_stale : (version : Version) (vars copy generation : ℕ) (image : State) (c : List ℕ) → ChoosesCopy vars copy c → HoldsImage version vars copy generation image c → IsStale generation (image_at vars (other_copy copy)) c
+other_stale : (version : Version) (vars copy generation : ℕ) (image : State) (c : List ℕ) → ChoosesCopy vars copy c → HoldsImage version vars copy generation image c → IsClosedOrStale generation (image_at vars (other_copy copy)) c
 other_stale version vars copy generation image c chosen holds =
     let head = front_of_image version vars generation (image_at vars copy) image c holds.cell in
     let same : chosen.0 ≡ generation = one_head (image_at vars copy) chosen.0 generation c chosen.1.fits holds.number.fits chosen.1.cell head in
-    subst (λ (g : ℕ). IsStale g (image_at vars (other_copy copy)) c) same chosen.1.other
+    subst (λ (g : ℕ). IsClosedOrStale g (image_at vars (other_copy copy)) c) same chosen.1.other
 
 -- block 0, the image of the chosen copy and a log over it make a state
 pub all_parts : (block_version version : Version) (vars slots copy generation : ℕ) (image s : State) (log : Log) (c : List ℕ) → version_number block_version ≤ version_number version → copy ≤ 1 → log.generation ≡ generation → IsOpenOver 0 (block_body block_version vars slots) c

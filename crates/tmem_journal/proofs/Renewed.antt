@@ -8,18 +8,18 @@ use Rattle.tmem_fault.specs.declared.fault.Fault.{Fault}
 use Rattle.tmem_fault.specs.declared.fault.Fault.TheVariants.{Device}
 use Rattle.tmem_disk.proofs.Laws.{AtEachMoment-trans, LeavesOnly-more, Rewritten-keeps, slice_get-before, slice_get-after}
 use Rattle.tmem_gate.specs.Calls.{MadeBy, WritesWithin}
-use Rattle.tmem_gate.specs.Changes.{Outcome, WasMade, NotMade, InDoubt, NotBegun, Either, Becomes, Meanwhile, call_outcome}
+use Rattle.tmem_gate.specs.Changes.{ChangeOutcome, WasMade, NotMade, InDoubt, NotBegun, Either, Becomes, Meanwhile, call_outcome}
 use Rattle.tmem_gate.specs.Gate.{IsOpenOver}
 use Rattle.tmem_gate.proofs.Laws.{open_before, open_after, WritesWithin-wider, WritesWithin-trans}
 use Rattle.tmem_record.specs.Layout.{pages_of, image_at, image_size, slot_at}
-use Rattle.tmem_record.specs.Stale.{IsStale}
+use Rattle.tmem_record.specs.Stale.{IsClosedOrStale}
 use Rattle.tmem_effect.specs.State.{State, fold, IsWithin}
 use Rattle.tmem_effect.specs.declared.effect.Effect.{Effect}
 use Rattle.tmem_state.specs.Versions.{version_number}
 use Rattle.tmem_state.specs.declared.version.Version.{Version}
 use Rattle.tmem_state.specs.declared.version.Version.TheVariants.{One, Two}
 use Rattle.tmem_image.specs.Image.{HoldsImage, other_copy}
-use Rattle.tmem_image.specs.Spare.{ImagePlaced, IsSettled, WithoutImage, WithImage}
+use Rattle.tmem_image.specs.Spare.{ImagePlaced, GateIsSynced, WithoutImage, WithImage}
 use Rattle.tmem_image.specs.Spelling.{image_body}
 use Rattle.tmem_image.specs.Pages.{has_page, is_page_changed, HoldsOthers, pages_at}
 use Rattle.tmem_image.proofs.Laws.{front_of_image, HoldsOthers-before, HoldsOthers-after, HoldsOthers-fold, HoldsOthers-image}
@@ -34,7 +34,7 @@ use Rattle.tmem_journal.proofs.Logged.{copy_cases, copy_below, other_one, image_
 use Rattle.tmem_journal.proofs.Recovers.{current_at}
 
 -- on a synced device each gate is settled
-pub settled : {at : ℕ} (d : DeviceView) → IsSynced d → IsSettled at d
+pub settled : {at : ℕ} (d : DeviceView) → IsSynced d → GateIsSynced at d
 settled {at} d synced = record { each = λ k c left. ap (λ (l : List ℕ). slice_get l at) (synced k c left) }
 
 -- one copy stands in front of the other, or behind it
@@ -102,7 +102,7 @@ module _ (vars slots : ℕ) (p : Position) (s : State) (b c : List ℕ) (stands 
       let was = image_aside vars slots p.copy stands.holds.one b c with.elsewhere p.version p.generation stands.image stands.holds.chosen in
       let head = front_of_image p.version vars p.generation (image_at vars p.copy) stands.image c was.cell in
       let less : p.generation < p.generation + 1 = omega arith in
-      let stale : IsStale (p.generation + 1) (image_at vars p.copy) c = inr (p.generation, less, head) in
+      let stale : IsClosedOrStale (p.generation + 1) (image_at vars p.copy) c = inr (p.generation, less, head) in
       let within : IsWithin s = subst (λ (t : State). IsWithin t) stands.is_state (LogWithin-last stands.image stands.batches stands.holds.log.within) in
       let log = log_aside vars slots p.copy stands.holds.one b c with.elsewhere p.version p.generation stands.image stands.batches stands.holds.log in
       record {
@@ -114,7 +114,7 @@ module _ (vars slots : ℕ) (p : Position) (s : State) (b c : List ℕ) (stands 
           block = block_aside vars slots p.copy stands.holds.one b c with.elsewhere stands.holds.block_version stands.holds.block;
           one = other_one p.copy;
           chosen = with.image;
-          other = subst (λ (k : ℕ). IsStale (p.generation + 1) (image_at vars k) c) back stale;
+          other = subst (λ (k : ℕ). IsClosedOrStale (p.generation + 1) (image_at vars k) c) back stale;
           log = emptied p.version Two vars slots p.generation (p.generation + 1) stands.image s stands.batches c less fits within log;
         };
         is_used = refl;
@@ -146,7 +146,7 @@ module _ (vars slots : ℕ) (p : Position) (s : State) (fits : p.generation + 1 
   before : old.keeps_model → (c : List ℕ) → old.may_leave c → ContentRepresentsState vars slots s c
   before k c may = ∥∥₁_map (sure.each k c may) (λ held. (p, held))
 
-  pub after_writing : (o : Outcome) → LeavesOnly mid (Becomes (WithoutImage next) (WithImage next) old o) → LeavesOnly mid (ContentRepresentsState vars slots s)
+  pub after_writing : (o : ChangeOutcome) → LeavesOnly mid (Becomes (WithoutImage next) (WithImage next) old o) → LeavesOnly mid (ContentRepresentsState vars slots s)
   after_writing WasMade puts = record { each = λ k c may. ∥∥₁_map (with (model k) c (puts.each k c may)) (λ held. (next_image p, held)) }
   after_writing NotMade puts = record { each = λ k c may. without (model k) c (puts.each k c may) }
   after_writing InDoubt puts = record { each = λ k c may. either (model k) c (puts.each k c may) }
@@ -159,7 +159,7 @@ module _ (vars slots : ℕ) (p : Position) (s : State) (fits : p.generation + 1 
   with_current : old.keeps_model → (c : List ℕ) → MadeBy (WithImage next) old c → IsCurrent vars slots c
   with_current k c from = current_at (with k c from) refl
 
-  pub current_writing : p.version ≡ Two → (o : Outcome) → LeavesOnly mid (Becomes (WithoutImage next) (WithImage next) old o) → LeavesOnly mid (IsCurrent vars slots)
+  pub current_writing : p.version ≡ Two → (o : ChangeOutcome) → LeavesOnly mid (Becomes (WithoutImage next) (WithImage next) old o) → LeavesOnly mid (IsCurrent vars slots)
   current_writing two WasMade puts = record { each = λ k c may. with_current (model k) c (puts.each k c may) }
   current_writing two NotMade puts = record { each = λ k c may. without_current two (model k) c (puts.each k c may) }
   current_writing two InDoubt puts = record {
@@ -176,7 +176,7 @@ module _ (vars slots : ℕ) (p : Position) (s : State) (fits : p.generation + 1 
       record { each = λ k c may. let from = none.each k c may in ∥∥₁_map (sure.each (model k) from.0 from.1) (λ held. kept_state vars slots p s from.0 c held from.2) }
 
   -- while it is written
-  pub while_writing : (o : Outcome) → AtEachMoment old mid (Meanwhile (WithoutImage next) (WithImage next) old o) → AtEachMoment old mid (ContentRepresentsState vars slots s)
+  pub while_writing : (o : ChangeOutcome) → AtEachMoment old mid (Meanwhile (WithoutImage next) (WithImage next) old o) → AtEachMoment old mid (ContentRepresentsState vars slots s)
   while_writing WasMade during = record { each = λ k c left. either (model k) c (during.each k c left) }
   while_writing NotMade during = record { each = λ k c left. without (model k) c (during.each k c left) }
   while_writing InDoubt during = record { each = λ k c left. either (model k) c (during.each k c left) }

@@ -1,7 +1,7 @@
 -- A content represents one state at most, at one position.
 use Rattle.std.proofs.Common.{◌≡◌, ◌≤◌, ◌^◌, ℕ, List, length, sym, ◌∙◌, ap, subst}
 use Rattle.tmem_record.specs.Layout.{image_at}
-use Rattle.tmem_record.specs.Stale.{IsStale}
+use Rattle.tmem_record.specs.Stale.{IsClosedOrStale}
 use Rattle.tmem_effect.specs.State.{State}
 use Rattle.tmem_effect.specs.declared.effect.Effect.{Effect}
 use Rattle.tmem_state.specs.declared.version.Version.{Version}
@@ -12,7 +12,7 @@ use Rattle.tmem_redolog.proofs.Laws.{one_log}
 use Rattle.tmem_journal.specs.Contents.{Position, Holds, HoldsState}
 
 -- an image in one copy is chosen where the other copy is stale for it
-pub chosen_with : (version : Version) (vars copy generation : ℕ) (image : State) (c : List ℕ) → copy ≤ 1 → HoldsImage version vars copy generation image c → IsStale generation (image_at vars (other_copy copy)) c → IsChosen vars copy generation c
+pub chosen_with : (version : Version) (vars copy generation : ℕ) (image : State) (c : List ℕ) → copy ≤ 1 → HoldsImage version vars copy generation image c → IsClosedOrStale generation (image_at vars (other_copy copy)) c → IsChosen vars copy generation c
 chosen_with version vars copy generation image c one holds other =
     record { one = one; fits = holds.number.fits; cell = front_of_image version vars generation (image_at vars copy) image c holds.cell; other = other }
 

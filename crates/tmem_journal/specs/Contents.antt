@@ -1,7 +1,7 @@
 -- Which state the content of a device represents, and at which position.
 use Rattle.std.specs.Prelude.{◌≡◌, ◌⊎◌, ◌+◌, ◌≤◌, ◌^◌, ℕ, List, length}
 use Rattle.tmem_gate.specs.Gate.{IsOpenOver}
-use Rattle.tmem_record.specs.Stale.{IsStale}
+use Rattle.tmem_record.specs.Stale.{IsClosedOrStale}
 use Rattle.tmem_effect.specs.State.{State}
 use Rattle.tmem_state.specs.Versions.{version_number}
 use Rattle.tmem_state.specs.declared.version.Version.{Version}
@@ -63,7 +63,7 @@ pub record Holds (version : Version) (vars slots copy generation : ℕ) (image :
   pub block : IsOpenOver 0 (block_body block_version vars slots) c
   pub one : copy ≤ 1
   pub chosen : HoldsImage version vars copy generation image c
-  pub other : IsStale generation (image_at vars (other_copy copy)) c
+  pub other : IsClosedOrStale generation (image_at vars (other_copy copy)) c
   pub log : HoldsLog version vars slots generation image batches c
 
 -- The content holds an image and a log that make this state. Each batch of the log takes one slot: so many are used.

@@ -1,4 +1,4 @@
--- What an opening makes of a content: recovery closes gates behind the log, and a migration writes an image of version 2.
+-- What an opening makes of a content: mending closes gates behind the log, and a migration writes an image of version 2.
 use Rattle.std.specs.Prelude.{◌≡◌, ◌≢◌, ◌<◌, ◌≤◌, ◌⊎◌, ◌+◌, ◌*◌, ℕ, List, slice_get}
 use Rattle.tmem_disk.specs.Disk.{DeviceView, SameOutside, AtEachMoment}
 use Rattle.tmem_gate.specs.Calls.{OnlyReads, WritesWithin}
@@ -19,7 +19,7 @@ pub record Mends (vars slots : ℕ) (b c : List ℕ) : Type 0 where
   pub others : (i : ℕ) → IsNoSlotGate vars slots b i → slice_get c i ≡ slice_get b i
   pub elsewhere : SameOutside (slot_at vars 0) (4096 * slots) b c
 
--- a crash might have left it before, but for gates that recovery closes
+-- a crash might have left it before, but for gates that mending closes
 abbrev pub MendedBy : ℕ → ℕ → DeviceView → List ℕ → Type 0
 MendedBy vars slots d c = (b : List ℕ) × d.may_leave b × Mends vars slots b c
 
@@ -27,7 +27,7 @@ MendedBy vars slots d c = (b : List ℕ) × d.may_leave b × Mends vars slots b 
 abbrev pub ClosedFrom : ℕ → ℕ → ℕ → List ℕ → Type 0
 ClosedFrom vars slots used c = (k : ℕ) → used ≤ k → k < slots → IsClosed (slot_at vars k) c
 
--- What recovery does to a device, whatever it answers. Gates behind the log are closed, and nothing else is written; nothing at
+-- What mending does to a device, whatever the opening answers. Gates behind the log are closed, and nothing else is written; nothing at
 -- all where they read closed, or where the content represents no state. A crash at any moment leaves what one might have left
 -- before, but for such gates that are closed in it.
 pub record MendsDevice (vars slots : ℕ) (old new : DeviceView) : Type 0 where

@@ -5,7 +5,7 @@ ghost use Rattle.tmem_core.specs.Held.{core_state, waiting_of, durable_of, is_sh
 ghost use Rattle.tmem_core.specs.Program.{IsProgramOf};
 ghost use Rattle.tmem_journal.specs.Calls.{FitsOn};
 ghost use Rattle.tmem_journal.specs.Held.{disk_of, doubtful_of, is_closed_of, journal_state};
-ghost use Rattle.tmem_tree.specs.Shapes.{AreMeant, AreWithin, names_of};
+ghost use Rattle.tmem_tree.specs.Signatures.{AreMeant, AreWithin, names_of};
 
 use std::alloc::{AllocError, Global};
 use tmem_core::Core;
@@ -14,7 +14,7 @@ use tmem_fault::Fault;
 use tmem_invariants::Invariants;
 use tmem_journal::Journal;
 use tmem_state::Batch;
-use tmem_tree::{Shape, shapes_of};
+use tmem_tree::{Signature, signatures_of};
 
 /// A store that was opened: a core of the state that was found, with the table that was handed in, and the journal that goes
 /// on from there. Nothing waits, and nothing is doubtful.
@@ -25,16 +25,16 @@ pub struct Opening<D: Disk, T: Invariants> {
     /// What a flush hands to the journal.
     pub batch: Batch,
     /// What a plan has to know of the table's invariants, in its order.
-    pub shapes: Vec<Shape>,
+    pub signatures: Vec<Signature>,
     pub ghost found: { core_state core ≡ journal_state journal },
     pub ghost waits: { waiting_of core ≡ [] },
     pub ghost known: { durable_of core ≡ (core_state core).count },
     pub ghost running: { is_shut_of core ≡ false },
     pub ghost open: { is_closed_of journal ≡ false },
     pub ghost sure: { doubtful_of journal ≡ journal_state journal },
-    pub ghost named: { names_of shapes.items ≡ T.names (core_table core) },
-    pub ghost meant: { (m : Meanings) → T.is_stated (core_table core) m → AreMeant m shapes.items },
-    pub ghost within: { AreWithin (length (core_state core).values) shapes.items },
+    pub ghost named: { names_of signatures.items ≡ T.names (core_table core) },
+    pub ghost meant: { (m : Meanings) → T.is_stated (core_table core) m → AreMeant m signatures.items },
+    pub ghost within: { AreWithin (length (core_state core).values) signatures.items },
 }
 
 impl<D: Disk + Drop, T: Invariants + Drop> Opening<D, T> {
@@ -83,11 +83,11 @@ impl<D: Disk + Drop, T: Invariants + Drop> Opening<D, T> {
             Err((fault, table)) => return Err((fault, journal.into_disk(), table)),
         };
         match made {
-            Ok((shapes, batch)) => Ok(Opening {
+            Ok((signatures, batch)) => Ok(Opening {
                 core,
                 journal,
                 batch,
-                shapes,
+                signatures,
             }),
             Err(_) => Err((Fault::Memory, journal.into_disk(), core.into_table())),
         }
@@ -103,12 +103,12 @@ impl<D: Disk + Drop, T: Invariants + Drop> Opening<D, T> {
 }
 
 // What takes memory beside the journal and the core.
-fn parts<T: Invariants>(alloc: Global, table: &T) -> Result<(Vec<Shape>, Batch), AllocError>
+fn parts<T: Invariants>(alloc: Global, table: &T) -> Result<(Vec<Signature>, Batch), AllocError>
     ensures named { IfOk result (λ made. names_of made.0.items ≡ T.names table.now) }
     ensures meant { (m : Meanings) → T.is_stated table.now m → IfOk result (λ made. AreMeant m made.0.items) }
     ensures within { IfOk result (λ made. AreWithin (T.vars table.now) made.0.items) }
 {
-    let shapes = shapes_of(alloc, table)?;
+    let signatures = signatures_of(alloc, table)?;
     let batch = Batch::new(alloc)?;
-    Ok((shapes, batch))
+    Ok((signatures, batch))
 }

@@ -14,7 +14,7 @@ use std::io::{self, Write};
 use tmem_builtins::{names, nonneg, ordered, sum};
 use tmem_fault::Fault;
 use tmem_tentative::{Attempt, Cursor, Outcome, Probe, Reads, evaluate};
-use tmem_tree::{Footprint, MAX_CHECKS, MAX_TURNS, Plan, Shape, StoredSteps, Tx};
+use tmem_tree::{Footprint, MAX_CHECKS, MAX_TURNS, Plan, Signature, StoredSteps, Tx};
 
 /// Evaluates a transaction in both ways, where the variables have these values, and each further one 0. Prints what it comes
 /// to, and how often each way called a stored step; or that the two differ.
@@ -27,25 +27,25 @@ pub(crate) fn evaluate_twice<S: StoredSteps, W: Write>(
     calls: &CallCounts,
     out: &mut W,
 ) -> Result<(), PlayFailure> {
-    match Plan::new(tx, steps, vars, &shapes()) {
+    match Plan::new(tx, steps, vars, &signatures()) {
         Ok(plan) => evaluate_plan(alloc, &plan, values, steps, calls, out),
         Err(fault) => Ok(print_fault(fault, out)?),
     }
 }
 
 // The three invariants, each with its variables.
-fn shapes() -> [Shape; 3] {
+fn signatures() -> [Signature; 3] {
     let names = names();
     [
-        Shape {
+        Signature {
             name: names[0],
             footprint: Footprint::of(&[0]),
         },
-        Shape {
+        Signature {
             name: names[1],
             footprint: Footprint::of(&[2, 3]),
         },
-        Shape {
+        Signature {
             name: names[2],
             footprint: Footprint::of(&[0, 1]),
         },

@@ -155,7 +155,7 @@ impl<T: Invariants + Drop, S: StoredSteps + Drop> OpenWorld<T, S> {
 
     // Prints the present state.
     fn show<W: Write>(&self, out: &mut W) -> io::Result<()> {
-        if !self.world.is_open() {
+        if !self.world.has_core() {
             return print_fault(Fault::Closed, out);
         }
         write!(out, "state count={} names=", self.world.count())?;

@@ -3,7 +3,7 @@ use Rattle.std.proofs.Common.{◌≡◌, ℕ, ◌+◌, ◌<◌, ◌≤◌, List,
 use Rattle.tmem_disk.specs.Disk.{DeviceView}
 use Rattle.tmem_gate.specs.Calls.{WritesWithin}
 use Rattle.tmem_gate.specs.Cells.{LeftClosed, LeftOpen}
-use Rattle.tmem_gate.specs.Changes.{Outcome, Puts}
+use Rattle.tmem_gate.specs.Changes.{ChangeOutcome, Puts}
 use Rattle.tmem_gate.specs.Gate.{StandsClosed}
 use Rattle.tmem_gate.proofs.Laws.{Puts-more}
 use Rattle.tmem_state.specs.Batch.{IsBatchIn}
@@ -25,7 +25,7 @@ module _ (p : BatchPlaced) (room : p.slot < p.slots) (is : IsBatchIn Two p.vars 
   short = length-batch_bytes-le Two p.vars p.generation p.first p.batch is
 
   -- as the bytes were spelled, at the offset that was found
-  module _ (offset : ℕ) (spelled : List ℕ) (old new : DeviceView) (o : Outcome) (here : offset ≡ at_of p) (same : spelled ≡ bytes_of p) where
+  module _ (offset : ℕ) (spelled : List ℕ) (old new : DeviceView) (o : ChangeOutcome) (here : offset ≡ at_of p) (same : spelled ≡ bytes_of p) where
     no : (b c : List ℕ) → LeftClosed offset (length spelled) b c → WithoutBatch p b c
     no b c left = without p (length (bytes_of p)) short b c (subst (λ (l : List ℕ). LeftClosed (at_of p) (length l) b c) same (subst (λ (n : ℕ). LeftClosed n (length spelled) b c) here left))
 

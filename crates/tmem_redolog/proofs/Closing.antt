@@ -10,7 +10,7 @@ use Rattle.tmem_gate.proofs.Laws.{gate_cases, closed_along, closed_before, no_ti
 use Rattle.tmem_record.specs.Layout.{slot_at, end_at}
 use Rattle.tmem_record.specs.Spelling.{number_bytes}
 use Rattle.tmem_record.proofs.Laws.{length-number_bytes}
-use Rattle.tmem_redolog.specs.Log.{IsStale}
+use Rattle.tmem_redolog.specs.Log.{IsClosedOrStale}
 use Rattle.tmem_redolog.specs.Closes.{bytes_from, IsNoOpenGate, Keeps, ReadClosed, Closes}
 use Rattle.tmem_redolog.proofs.Logs.{held_before}
 
@@ -113,7 +113,7 @@ keeps vars slots generation used to b c aside = record {
         let n : at + 1 + length (number_bytes 8 lesser) ≡ at + 9 = omega (arith, length-number_bytes 8 lesser) in
         record { gate = gate; body = ap (λ (e : ℕ). slice_range c (at + 1) e) n ∙ aside.generation k above below ∙ sym (ap (λ (e : ℕ). slice_range b (at + 1) e) n) ∙ cell.body }
 
-    stale_too : (k : ℕ) → used ≤ k → k < slots → IsStale generation (slot_at vars k) b → IsStale generation (slot_at vars k) c
+    stale_too : (k : ℕ) → used ≤ k → k < slots → IsClosedOrStale generation (slot_at vars k) b → IsClosedOrStale generation (slot_at vars k) c
     stale_too k above below (inl shut) = inl (aside.closed k above below shut)
     stale_too k above below (inr it) = ⊎_elim (λ gate. inr (it.0, it.1, over k it.0 above below it.2 gate)) (λ shut. inl shut) (gate_cases (slot_at vars k) c)
 

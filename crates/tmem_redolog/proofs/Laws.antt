@@ -14,7 +14,7 @@ use Rattle.tmem_state.specs.declared.version.Version.TheVariants.{Two}
 use Rattle.tmem_effect.proofs.Laws.{length-values-fold}
 use Rattle.tmem_redolog.specs.Appends.{FollowsOn, BatchPlaced, WithoutBatch, WithBatch}
 use Rattle.tmem_redolog.specs.Closes.{Keeps}
-use Rattle.tmem_redolog.specs.Log.{HoldsBatches, HoldsLog, IsStale, IsWithin, replayed}
+use Rattle.tmem_redolog.specs.Log.{HoldsBatches, HoldsLog, IsClosedOrStale, IsWithin, replayed}
 use Rattle.tmem_gate.specs.Calls.{MadeBy}
 use Rattle.tmem_redolog.proofs.OneLog.{begins, generation_first}
 -- one batch more, how long one is, and what stays within the limits
@@ -50,7 +50,7 @@ each_carries v vars generation slot first (es ∷ batches) c held k above below 
     (cases_lt slot k)
 
 -- where each slot is stale the log is empty
-pub no_batches : (v : Version) (vars slots generation : ℕ) (image : State) (c : List ℕ) → generation < 2 ^ 64 → IsWithin image → ((k : ℕ) → k < slots → IsStale generation (slot_at vars k) c) → HoldsLog v vars slots generation image [] c
+pub no_batches : (v : Version) (vars slots generation : ℕ) (image : State) (c : List ℕ) → generation < 2 ^ 64 → IsWithin image → ((k : ℕ) → k < slots → IsClosedOrStale generation (slot_at vars k) c) → HoldsLog v vars slots generation image [] c
 no_batches v vars slots generation image c fits within stale = record { generation_fits = fits; fits = omega arith; held = tt; behind = λ k above below. stale k below; within = within }
 
 -- and so where each slot is closed, whatever the generation of the image
@@ -64,7 +64,7 @@ emptied v w vars slots generation greater image next batches c less fits within 
     (λ not_used. older k (holds.behind k not_used below))
     (cases_lt k (length batches)))
   where
-    older : (k : ℕ) → IsStale generation (slot_at vars k) c → IsStale greater (slot_at vars k) c
+    older : (k : ℕ) → IsClosedOrStale generation (slot_at vars k) c → IsClosedOrStale greater (slot_at vars k) c
     older k (inl shut) = inl shut
     older k (inr it) = inr (it.0, omega (arith, it.1, less), it.2)
 
@@ -77,7 +77,7 @@ module _ (vars at n : ℕ) (b c : List ℕ) (same : SameOutside at n b c) (front
     held_behind v generation (slot + 1) (first + length es) batches held.1,
   )
 
-  still_stale : (generation k : ℕ) → IsStale generation (slot_at vars k) b → IsStale generation (slot_at vars k) c
+  still_stale : (generation k : ℕ) → IsClosedOrStale generation (slot_at vars k) b → IsClosedOrStale generation (slot_at vars k) c
   still_stale generation k (inl shut) = inl (closed_after at n (slot_at vars k) b c same (omega (arith, front)) shut)
   still_stale generation k (inr it) = inr (it.0, it.1, open_after at n (slot_at vars k) (number_bytes 8 it.0) b c same (omega (arith, front)) it.2)
 

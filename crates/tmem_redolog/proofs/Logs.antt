@@ -15,7 +15,7 @@ use Rattle.tmem_state.specs.declared.version.Version.{Version}
 use Rattle.tmem_state.specs.declared.version.Version.TheVariants.{Two}
 use Rattle.tmem_effect.proofs.Laws.{count-fold, StaysWithin-first, StaysWithin-last}
 use Rattle.tmem_record.proofs.Laws.{length-number_bytes, length-records}
-use Rattle.tmem_redolog.specs.Log.{HoldsBatch, HoldsBatches, LogWithin, StaysWithin, IsStale, IsWithin, replayed}
+use Rattle.tmem_redolog.specs.Log.{HoldsBatch, HoldsBatches, LogWithin, StaysWithin, IsClosedOrStale, IsWithin, replayed}
 use Rattle.tmem_redolog.specs.Appends.{BatchPlaced, WithoutBatch, WithBatch}
 
 -- how many bytes a batch has
@@ -86,7 +86,7 @@ held_before vars used n b c same v generation slot first (es ∷ batches) fits h
 
 -- and so does each slot behind the one that is written
 module _ (vars used : ℕ) (b c : List ℕ) (same : SameOutside (slot_at vars used) 4096 b c) where
-  pub stale_behind : (generation k : ℕ) → used < k → IsStale generation (slot_at vars k) b → IsStale generation (slot_at vars k) c
+  pub stale_behind : (generation k : ℕ) → used < k → IsClosedOrStale generation (slot_at vars k) b → IsClosedOrStale generation (slot_at vars k) c
   stale_behind generation k above stale =
       let offset : slot_at vars used + 4096 ≤ slot_at vars k = omega arith in
       ⊎_elim

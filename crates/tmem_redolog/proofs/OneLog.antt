@@ -11,7 +11,7 @@ use Rattle.tmem_effect.specs.declared.effect.Effect.{Effect}
 use Rattle.tmem_state.specs.declared.version.Version.{Version}
 use Rattle.tmem_effect.proofs.Laws.{count-fold, StaysWithin-first}
 use Rattle.tmem_record.proofs.Laws.{one_spelling, delimits_number, length-number_bytes}
-use Rattle.tmem_redolog.specs.Log.{HoldsBatch, HoldsBatches, HoldsLog, StaysWithin, IsStale, replayed}
+use Rattle.tmem_redolog.specs.Log.{HoldsBatch, HoldsBatches, HoldsLog, StaysWithin, IsClosedOrStale, replayed}
 use Rattle.tmem_redolog.specs.Scans.{HoldsFrom}
 use Rattle.tmem_redolog.specs.Laws.{OneLog}
 use Rattle.tmem_redolog.proofs.Logs.{length-batch_bytes}
@@ -40,14 +40,14 @@ one_number x y bytes fits_x fits_y first second =
     (delimits_number 8 x y [] [] (omega (arith, fits_x)) (omega (arith, fits_y)) (ap (λ (l : List ℕ). l ++ []) same)).0
 
 -- a slot of a generation is not stale
-pub not_stale_number : (generation at : ℕ) (c : List ℕ) → generation < 2 ^ 64 → IsOpenOver at (number_bytes 8 generation) c → IsStale generation at c → ⊥
+pub not_stale_number : (generation at : ℕ) (c : List ℕ) → generation < 2 ^ 64 → IsOpenOver at (number_bytes 8 generation) c → IsClosedOrStale generation at c → ⊥
 not_stale_number generation at c fits cell (inl closed) = closed.not_open cell.gate
 not_stale_number generation at c fits cell (inr it) =
     let same = one_number it.0 generation (drop (at + 1) c) (omega (arith, it.1, fits)) fits (begins at (number_bytes 8 it.0) c it.2) (begins at (number_bytes 8 generation) c cell) in
     omega (arith, same, it.1)
 
 -- nor is one that begins with a batch of it
-pub not_stale : (v : Version) (generation first at : ℕ) (es : List Effect) (c : List ℕ) → generation < 2 ^ 64 → IsOpenOver at (batch_bytes v generation first es) c → IsStale generation at c → ⊥
+pub not_stale : (v : Version) (generation first at : ℕ) (es : List Effect) (c : List ℕ) → generation < 2 ^ 64 → IsOpenOver at (batch_bytes v generation first es) c → IsClosedOrStale generation at c → ⊥
 not_stale v generation first at es c fits cell (inl closed) = closed.not_open cell.gate
 not_stale v generation first at es c fits cell (inr it) =
     let bytes = drop (at + 1) c in

@@ -10,7 +10,7 @@ use Rattle.tmem_effect.specs.declared.effect.Effect.{Effect}
 use Rattle.tmem_state.specs.declared.version.Version.{Version}
 use Rattle.tmem_effect.proofs.Laws.{fold-push, StaysWithin-first, StaysWithin-push, StaysWithin-at}
 use Rattle.tmem_record.proofs.Laws.{length-number_bytes}
-use Rattle.tmem_redolog.specs.Log.{IsStale, IsWithin, StaysWithin}
+use Rattle.tmem_redolog.specs.Log.{IsClosedOrStale, IsWithin, StaysWithin}
 use Rattle.tmem_redolog.specs.Scans.{MayReplay}
 use Rattle.tmem_redolog.proofs.OneLog.{begins, one_number, spells, one_batch}
 
@@ -62,10 +62,10 @@ module _ (slot : List ℕ) (x generation : ℕ) (fits_x : x < 2 ^ 64) (fits : ge
   pub of_it : IsOpenOver 0 (number_bytes 8 generation) slot → nat_eq x generation ≡ true
   of_it other = equal_too (same_number generation fits other)
 
-  pub is_less : nat_lt x generation ≡ true → IsStale generation 0 slot
+  pub is_less : nat_lt x generation ≡ true → IsClosedOrStale generation 0 slot
   is_less is = inr (x, less is, here)
 
-  pub less_it : IsStale generation 0 slot → nat_lt x generation ≡ true
+  pub less_it : IsClosedOrStale generation 0 slot → nat_lt x generation ≡ true
   less_it (inl shut) = absurd (shut.not_open open_now)
   less_it (inr it) = less_too (subst (λ (y : ℕ). y < generation) (sym (same_number it.0 (omega (arith, it.1, fits)) it.2)) it.1)
 

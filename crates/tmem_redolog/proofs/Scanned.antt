@@ -10,7 +10,7 @@ use Rattle.tmem_effect.specs.declared.effect.Effect.{Effect}
 use Rattle.tmem_state.specs.declared.version.Version.{Version}
 use Rattle.tmem_effect.proofs.Laws.{StaysWithin-first}
 use Rattle.tmem_record.proofs.Laws.{length-number_bytes}
-use Rattle.tmem_redolog.specs.Log.{HoldsBatch, HoldsLog, StaysWithin, IsStale, IsWithin}
+use Rattle.tmem_redolog.specs.Log.{HoldsBatch, HoldsLog, StaysWithin, IsClosedOrStale, IsWithin}
 use Rattle.tmem_fault.specs.declared.fault.Fault.{Fault}
 use Rattle.tmem_fault.specs.declared.fault.Fault.TheVariants as fault
 use Rattle.tmem_redolog.specs.Scans.{IsWhyNone, FindsLog, IsLogOf, slot_bytes, HoldsFrom, Rests, Reached, Replays, MayReplay}
@@ -63,11 +63,11 @@ module _ (vars slots : ℕ) (log c : List ℕ) (is : IsLogOf vars slots log c) (
   few_bytes : (g : ℕ) → length (number_bytes 8 g) ≤ 4095
   few_bytes g = omega (arith, length-number_bytes 8 g)
 
-  pub stale_in_slot : (generation : ℕ) → IsStale generation (slot_at vars k) c → IsStale generation 0 (slot_bytes log k)
+  pub stale_in_slot : (generation : ℕ) → IsClosedOrStale generation (slot_at vars k) c → IsClosedOrStale generation 0 (slot_bytes log k)
   stale_in_slot generation (inl shut) = inl (record { not_open = λ open_now. shut.not_open (sym gate_is ∙ open_now) })
   stale_in_slot generation (inr it) = inr (it.0, it.1, in_slot (number_bytes 8 it.0) (few_bytes it.0) it.2)
 
-  pub stale_in_content : (generation : ℕ) → IsStale generation 0 (slot_bytes log k) → IsStale generation (slot_at vars k) c
+  pub stale_in_content : (generation : ℕ) → IsClosedOrStale generation 0 (slot_bytes log k) → IsClosedOrStale generation (slot_at vars k) c
   stale_in_content generation (inl shut) = inl (record { not_open = λ open_now. shut.not_open (gate_is ∙ open_now) })
   stale_in_content generation (inr it) = inr (it.0, it.1, in_content (number_bytes 8 it.0) (few_bytes it.0) it.2)
 
@@ -142,7 +142,7 @@ module _ (v : Version) (vars slots generation : ℕ) (few : vars ≤ 2 ^ 16) (fi
               }
 
       -- so the log ends there, where each slot behind is stale
-      pub log_found : Reached v vars slots generation image used s c → IsWithin s → ((k : ℕ) → used ≤ k → k < slots → IsStale generation 0 (slot_bytes log k)) → FindsLog v vars slots generation image used s c
+      pub log_found : Reached v vars slots generation image used s c → IsWithin s → ((k : ℕ) → used ≤ k → k < slots → IsClosedOrStale generation 0 (slot_bytes log k)) → FindsLog v vars slots generation image used s c
       log_found before within stale =
           let ended : HoldsFrom v vars slots generation used s [] c = record {
             fits = omega (arith, few_used);
@@ -157,7 +157,7 @@ module _ (v : Version) (vars slots generation : ℕ) (few : vars ≤ 2 ^ 16) (fi
           none = omega arith
 
       -- and there is none where one is not
-      pub no_log : Reached v vars slots generation image used s c → (batches : List (List Effect)) → HoldsLog v vars slots generation image batches c → (k : ℕ) → used ≤ k → k < slots → IsStale generation 0 (slot_bytes log k)
+      pub no_log : Reached v vars slots generation image used s c → (batches : List (List Effect)) → HoldsLog v vars slots generation image batches c → (k : ℕ) → used ≤ k → k < slots → IsClosedOrStale generation 0 (slot_bytes log k)
       no_log before batches holds k above below =
           let left = before.rest batches (from_first holds) in
           let empty : length left.rest ≡ 0 = ap length (no_batch left.rest left.holds) in

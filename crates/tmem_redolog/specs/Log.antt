@@ -4,7 +4,7 @@ use Rattle.tmem_gate.specs.Gate.{IsOpenOver}
 use Rattle.tmem_state.specs.Batch.{IsBatchIn}
 use Rattle.tmem_record.specs.Layout.{slot_at}
 use Rattle.tmem_record.specs.Spelling.{batch_bytes}
-pub use Rattle.tmem_record.specs.Stale.{IsStale}
+pub use Rattle.tmem_record.specs.Stale.{IsClosedOrStale}
 use Rattle.tmem_effect.specs.State.{State, fold}
 pub use Rattle.tmem_effect.specs.State.{IsWithin, StaysWithin}
 use Rattle.tmem_effect.specs.declared.effect.Effect.{Effect}
@@ -39,5 +39,5 @@ pub record HoldsLog (v : Version) (vars slots generation : ℕ) (image : State) 
   pub generation_fits : generation < 2 ^ 64
   pub fits : length batches ≤ slots
   pub held : HoldsBatches v vars generation 0 image.count batches c
-  pub behind : (k : ℕ) → length batches ≤ k → k < slots → IsStale generation (slot_at vars k) c
+  pub behind : (k : ℕ) → length batches ≤ k → k < slots → IsClosedOrStale generation (slot_at vars k) c
   pub within : LogWithin image batches

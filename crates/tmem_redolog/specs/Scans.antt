@@ -8,7 +8,7 @@ use Rattle.tmem_record.specs.Spelling.{batch_bytes}
 use Rattle.tmem_effect.specs.State.{State, fold}
 use Rattle.tmem_effect.specs.declared.effect.Effect.{Effect}
 use Rattle.tmem_state.specs.declared.version.Version.{Version}
-use Rattle.tmem_redolog.specs.Log.{HoldsBatches, HoldsLog, LogWithin, StaysWithin, IsStale, replayed}
+use Rattle.tmem_redolog.specs.Log.{HoldsBatches, HoldsLog, LogWithin, StaysWithin, IsClosedOrStale, replayed}
 
 -- the content holds a log of so many batches over the image of that version, and the image's state after them is this one
 pub record FindsLog (v : Version) (vars slots generation : ℕ) (image : State) (used : ℕ) (s : State) (c : List ℕ) : Type 0 where
@@ -27,12 +27,12 @@ pub record IsLogOf (vars slots : ℕ) (log c : List ℕ) : Type 0 where
 abbrev pub slot_bytes : List ℕ → ℕ → List ℕ
 slot_bytes log k = slice_range log (4096 * k) (4096 * k + 4096)
 
--- the slots from one on hold these batches over a state, each slot behind them is stale, and the state stays within the
+-- the slots from one on hold these batches over a state, each slot behind them is closed or stale, and the state stays within the
 -- limits, record by record
 pub record HoldsFrom (v : Version) (vars slots generation slot : ℕ) (s : State) (rest : List (List Effect)) (c : List ℕ) : Type 0 where
   pub fits : slot + length rest ≤ slots
   pub held : HoldsBatches v vars generation slot s.count rest c
-  pub behind : (k : ℕ) → slot + length rest ≤ k → k < slots → IsStale generation (slot_at vars k) c
+  pub behind : (k : ℕ) → slot + length rest ≤ k → k < slots → IsClosedOrStale generation (slot_at vars k) c
   pub within : LogWithin s rest
 
 -- batches over the image that end as some batches over a later state do, which come behind so many slots

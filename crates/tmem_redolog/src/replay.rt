@@ -3,7 +3,7 @@ ghost use Rattle.std.specs.Prelude.{◌≡◌, ◌↔◌, ◌<◌, ◌^◌, ℕ,
 ghost use Rattle.tmem_gate.specs.Gate.{IsOpenAt, HasBody, IsOpenOver};
 ghost use Rattle.tmem_record.specs.Spelling.{number_bytes};
 ghost use Rattle.tmem_effect.specs.declared.effect.Effect.{Effect as EffectOf};
-ghost use Rattle.tmem_redolog.specs.Log.{IsStale, IsWithin};
+ghost use Rattle.tmem_redolog.specs.Log.{IsClosedOrStale, IsWithin};
 ghost use Rattle.tmem_redolog.specs.Scans.{Replays, MayReplay};
 
 use tmem_effect::Effect;
@@ -40,9 +40,9 @@ pub(crate) fn carries(slot: &[u8], generation: u64) -> bool
 }
 
 /// Whether a slot is closed or of a lesser generation.
-pub(crate) fn is_stale(slot: &[u8], generation: u64) -> bool
+pub(crate) fn is_closed_or_stale(slot: &[u8], generation: u64) -> bool
     requires { length slot.now ≡ 4096 }
-    ensures { IsTrue result ↔ IsStale generation 0 slot.now }
+    ensures { IsTrue result ↔ IsClosedOrStale generation 0 slot.now }
 {
     !is_open(slot) || generation_in(slot) < generation
 }

@@ -5,12 +5,12 @@ ghost use Rattle.tmem_gate.specs.Gate.{IsOpenOver};
 ghost use Rattle.tmem_record.specs.Layout.{slot_at, end_at};
 ghost use Rattle.tmem_record.specs.Spelling.{number_bytes};
 ghost use Rattle.tmem_effect.specs.declared.effect.Effect.{Effect as EffectOf};
-ghost use Rattle.tmem_redolog.specs.Log.{HoldsLog, IsStale, IsWithin};
+ghost use Rattle.tmem_redolog.specs.Log.{HoldsLog, IsClosedOrStale, IsWithin};
 ghost use Rattle.tmem_redolog.specs.Room.{IsLogRoom};
 ghost use Rattle.tmem_redolog.specs.Scans.{FindsLog, IsWhyNone, IsLogOf, slot_bytes, HoldsFrom, Reached};
 
 use crate::log::Log;
-use crate::replay::{carries, is_stale, replay_slot};
+use crate::replay::{carries, is_closed_or_stale, replay_slot};
 use crate::room::LogRoom;
 use tmem_disk::Disk;
 use tmem_effect::Effect;
@@ -48,7 +48,7 @@ pub fn scan<D: Disk>(
     let log = read_piece(disk, layout.slot(0), bytes)?;
     let bytes: &[u8] = &log;
     let used = replay(bytes, layout, generation, version, state)?;
-    if !are_stale(bytes, used, layout.slots, generation) {
+    if !are_closed_or_stale(bytes, used, layout.slots, generation) {
         return Err(Fault::Damaged);
     }
     Ok(Log { generation, used })
@@ -106,12 +106,12 @@ fn recall_limits(state: &State)
 }
 
 // Whether each slot from one on is closed or of a lesser generation.
-fn are_stale(log: &[u8], from: u16, slots: u16, generation: u64) -> bool
+fn are_closed_or_stale(log: &[u8], from: u16, slots: u16, generation: u64) -> bool
     requires { length log.now ≡ 4096 * slots }
-    ensures { IsTrue result ↔ ((k : ℕ) → from ≤ k → k < slots → IsStale generation 0 (slot_bytes log.now k)) }
+    ensures { IsTrue result ↔ ((k : ℕ) → from ≤ k → k < slots → IsClosedOrStale generation 0 (slot_bytes log.now k)) }
 {
     for k in from..slots {
-        if !is_stale(slot_of(log, k), generation) {
+        if !is_closed_or_stale(slot_of(log, k), generation) {
             return false;
         }
     }

@@ -1,6 +1,6 @@
 pub mod Builtin
 pub mod Chains
 pub mod Counted
-pub mod Noted
+pub mod Kept
 pub mod Printed
 pub mod Stored

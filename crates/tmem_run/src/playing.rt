@@ -12,8 +12,8 @@ ghost use Rattle.tmem_run.specs.Stored.{PlaysOver, StopsOver, RefusesOver, Plays
 
 use crate::counts::is_flush;
 use crate::device::{device_in_file, device_in_memory};
-use crate::notes::Notes;
 use crate::print::{print_line, print_state};
+use crate::trace::Trace;
 use std::alloc::Global;
 use std::fs::{File, Files};
 use std::io::Write;
@@ -48,7 +48,7 @@ pub fn play<R: Files<File = File> + AllocGlobal, W: Write>(
     path: Option<&str>,
     out: &mut W,
     device: &mut Option<Played>,
-    notes: &mut Notes,
+    trace: &mut Trace,
 ) -> Result<(), ProgramFailure>
     requires { device.old ≡ None }
     ensures played { OnOk result (PlaysWhere (option_map (λ text. text.now) path.entry) device.new script.vars script.slots script.entries.items (W.contents out.old) (W.contents out.new)) }
@@ -94,7 +94,7 @@ pub fn play<R: Files<File = File> + AllocGlobal, W: Write>(
         stored_steps(),
         out,
         device,
-        notes,
+        trace,
     )
 }
 
@@ -114,7 +114,7 @@ fn play_with<
     steps: S,
     out: &mut W,
     device: &mut Option<Played>,
-    notes: &mut Notes,
+    trace: &mut Trace,
 ) -> Result<(), ProgramFailure>
     requires none { device.old ≡ None }
     requires vars { T.vars table ≡ layout.vars }
@@ -133,7 +133,7 @@ fn play_with<
     match path {
         None => {
             let disk = device_in_memory(rt.alloc(), layout)?;
-            play_on(rt.alloc(), disk, layout, entries, table, steps, out, notes).1
+            play_on(rt.alloc(), disk, layout, entries, table, steps, out, trace).1
         }
         Some(path) => {
             let (disk, zeros) = device_in_file(rt, path, layout)?;
@@ -146,7 +146,7 @@ fn play_with<
                 table,
                 steps,
                 out,
-                notes,
+                trace,
             );
             *device = Some(Played { zeros, found, left });
             outcome
@@ -156,7 +156,7 @@ fn play_with<
 
 /// Opens a device, plays the entries of a script on it as `tmem run` does, and hands the device back. The invariants and the
 /// steps are the builtin ones, for as many variables as the layout has, and no call of the device has failed yet. `Output`
-/// where the output failed; `Refused` with its fault where the opening was refused, and nothing is printed then. `notes` takes the
+/// where the output failed; `Refused` with its fault where the opening was refused, and nothing is printed then. `trace` takes the
 /// entries that are refused, and what is committed and durable.
 pub fn play_on<D: Disk + Drop, T: Invariants + Drop, S: StoredSteps + Drop, W: Write>(
     alloc: Global,
@@ -166,7 +166,7 @@ pub fn play_on<D: Disk + Drop, T: Invariants + Drop, S: StoredSteps + Drop, W: W
     table: T,
     steps: S,
     out: &mut W,
-    notes: &mut Notes,
+    trace: &mut Trace,
 ) -> (D, Result<(), ProgramFailure>)
     requires vars { T.vars table ≡ layout.vars }
     requires arities { S.arities steps ≡ 2 ∷ 2 ∷ 2 ∷ [] }
@@ -180,12 +180,12 @@ pub fn play_on<D: Disk + Drop, T: Invariants + Drop, S: StoredSteps + Drop, W: W
         Err((fault, disk)) => return (disk, Err(ProgramFailure::Refused(fault))),
     };
     let count = world.count();
-    notes.note_found(count);
+    trace.keep_found(count);
     match print_line(out, ReplyLine(Reply::Opened(count))) {
         Ok(()) => {}
         Err(failure) => return (world.into_disk(), Err(failure)),
     }
-    let outcome = play_entries(&mut world, entries, layout.vars, out, notes);
+    let outcome = play_entries(&mut world, entries, layout.vars, out, trace);
     (world.into_disk(), outcome)
 }
 
@@ -195,7 +195,7 @@ fn play_entries<D: Disk + Drop, T: Invariants + Drop, S: StoredSteps + Drop, W: 
     entries: Vec<ScriptEntry>,
     vars: u16,
     out: &mut W,
-    notes: &mut Notes,
+    trace: &mut Trace,
 ) -> Result<(), ProgramFailure>
     requires { (numbers_of world.old).vars ≡ vars }
     ensures played { OnOk result (PlaysEntries world.old (W.contents out.old) entries.items world.new (W.contents out.new)) }
@@ -208,7 +208,7 @@ fn play_entries<D: Disk + Drop, T: Invariants + Drop, S: StoredSteps + Drop, W: 
     ensures kept { KeepsSetting world.old world.new }
 {
     for entry in entries {
-        play_entry(world, entry, vars, out, notes)?;
+        play_entry(world, entry, vars, out, trace)?;
     }
     Ok(())
 }
@@ -219,7 +219,7 @@ fn play_entry<D: Disk + Drop, T: Invariants + Drop, S: StoredSteps + Drop, W: Wr
     entry: ScriptEntry,
     vars: u16,
     out: &mut W,
-    notes: &mut Notes,
+    trace: &mut Trace,
 ) -> Result<(), ProgramFailure>
     requires { (numbers_of world.old).vars ≡ vars }
     ensures played { OnOk result (PlaysEntries world.old (W.contents out.old) (entry ∷ []) world.new (W.contents out.new)) }
@@ -232,11 +232,11 @@ fn play_entry<D: Disk + Drop, T: Invariants + Drop, S: StoredSteps + Drop, W: Wr
         ScriptEntry::Event(playable) => {
             let is_flush = is_flush(&playable.event);
             let reply = world.step(playable.event);
-            notes.note(is_flush, &reply);
+            trace.keep_reply(is_flush, &reply);
             print_line(out, ReplyLine(reply))
         }
         ScriptEntry::Show => {
-            notes.note_shown(world.is_open());
+            trace.keep_shown(world.has_core());
             print_state(out, world, vars)
         }
     }

@@ -53,7 +53,7 @@ pub(crate) fn print_state<D: Disk + Drop, T: Invariants + Drop, S: StoredSteps +
         → Appends (W.contents out.old) (W.contents out.new) (line (shown vars m.status (present program m)))) }
     ensures failed { IfErr result (λ failure. failure ≡ Output) }
 {
-    if !world.is_open() {
+    if !world.has_core() {
         return print_line(out, ReplyLine(Reply::Fault(Fault::Closed)));
     }
     print_text(out, format_args!("state count={} names=", world.count()))?;

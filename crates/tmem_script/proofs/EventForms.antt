@@ -15,19 +15,19 @@ use Rattle.tmem_forms.proofs.Laws.{key_of, apart, width}
 abbrev pub NoEvent : Data → Type 0
 NoEvent d = (event : Event) → ¬ IsEvent event d
 
-pub no_begin : (body : Data) → ((slot : ℕ) (tx : Tx) → TxInRange tx → ¬ (body ≡ array_of (natural slot ∷ tx_form tx ∷ []))) → NoEvent (tagged (codes "begin") body)
-no_begin body none (event.Begin slot tx) is = let form = is.form in none slot tx is.in_range cc
-no_begin body none (event.Turn slot) is = apart (codes "begin") _ refl (ap key_of is.form)
-no_begin body none (event.Settle slot) is = apart (codes "begin") _ refl (ap key_of is.form)
+pub no_begin : (body : Data) → ((attempt : ℕ) (tx : Tx) → TxInRange tx → ¬ (body ≡ array_of (natural attempt ∷ tx_form tx ∷ []))) → NoEvent (tagged (codes "begin") body)
+no_begin body none (event.Begin attempt tx) is = let form = is.form in none attempt tx is.in_range cc
+no_begin body none (event.Turn attempt) is = apart (codes "begin") _ refl (ap key_of is.form)
+no_begin body none (event.Settle attempt) is = apart (codes "begin") _ refl (ap key_of is.form)
 no_begin body none event.Flush is = apart (codes "begin") _ refl (ap key_of is.form)
 no_begin body none event.Checkpoint is = apart (codes "begin") _ refl (ap key_of is.form)
 no_begin body none event.Look is = apart (codes "begin") _ refl (ap key_of is.form)
 no_begin body none event.Reopen is = apart (codes "begin") _ refl (ap key_of is.form)
 
 event_width : (e : Event) → width (event_form e) ≡ 1
-event_width (event.Begin slot tx) = refl
-event_width (event.Turn slot) = refl
-event_width (event.Settle slot) = refl
+event_width (event.Begin attempt tx) = refl
+event_width (event.Turn attempt) = refl
+event_width (event.Settle attempt) = refl
 event_width event.Flush = refl
 event_width event.Checkpoint = refl
 event_width event.Look = refl

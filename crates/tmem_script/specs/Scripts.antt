@@ -11,9 +11,9 @@ use Rattle.tmem_script.specs.declared.script.ScriptEntry.TheVariants as entry
 
 -- the form of an event
 abbrev pub event_form : Event → Data
-event_form (event.Begin slot tx) = tagged (codes "begin") (array_of (natural slot ∷ tx_form tx ∷ []))
-event_form (event.Turn slot) = tagged (codes "turn") (natural slot)
-event_form (event.Settle slot) = tagged (codes "settle") (natural slot)
+event_form (event.Begin attempt tx) = tagged (codes "begin") (array_of (natural attempt ∷ tx_form tx ∷ []))
+event_form (event.Turn attempt) = tagged (codes "turn") (natural attempt)
+event_form (event.Settle attempt) = tagged (codes "settle") (natural attempt)
 event_form event.Flush = string (codes "flush")
 event_form event.Checkpoint = string (codes "checkpoint")
 event_form event.Look = string (codes "look")
@@ -21,9 +21,9 @@ event_form event.Reopen = string (codes "reopen")
 
 -- the transaction of an event is in range, if it has one
 abbrev pub EventInRange : Event → Type 0
-EventInRange (event.Begin slot tx) = TxInRange tx
-EventInRange (event.Turn slot) = Unit {0}
-EventInRange (event.Settle slot) = Unit {0}
+EventInRange (event.Begin attempt tx) = TxInRange tx
+EventInRange (event.Turn attempt) = Unit {0}
+EventInRange (event.Settle attempt) = Unit {0}
 EventInRange event.Flush = Unit {0}
 EventInRange event.Checkpoint = Unit {0}
 EventInRange event.Look = Unit {0}

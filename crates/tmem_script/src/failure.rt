@@ -5,8 +5,7 @@ ghost use Rattle.tmem_script.specs.Statuses.{status_of, failure_line};
 
 use crate::script::ScriptError;
 use std::fmt::{self, Display};
-use std::io;
-use std::io::Write;
+use std::io::{self, Write};
 use thiserror::Error;
 use tmem_fault::Fault;
 

@@ -27,7 +27,7 @@ numbered number es = map (λ (e : Effect). (number, e)) es
 abbrev pub IsSoundState : Program → State → Type 0
 IsSoundState p s = IsSound p.tests p.names s.names s.values
 
--- the state after each beginning of a history is sound
+-- the state after each prefix of a history is sound
 abbrev pub AreSound : Program → State → List MarkedEffect → Type 0
 AreSound p opening log = (xs : List MarkedEffect) → IsPrefix xs log → IsSoundState p (state_after_history opening xs)
 

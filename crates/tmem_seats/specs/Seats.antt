@@ -21,7 +21,7 @@ pub record CoreSeatView : Type 0 where
   pub is_draining : Bool
   pub failure : Failure
 
--- The core's state is what the committed effects make of the opening state, and is sound after each beginning of them, and within
+-- The core's state is what the committed effects make of the opening state, and is sound after each prefix of them, and within
 -- the limits of counts and names. Those behind the number known durable wait. Its table has the program's invariants.
 pub record IsCoreOf {T : Type 0} {t : _} (start : ℕ) (opening : State) (program : Program) (c : Core T t) (v : CoreRoleView) : Type 0 where
   pub state : core.core_state c ≡ state_after_history opening v.committed

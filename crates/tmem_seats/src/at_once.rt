@@ -1,10 +1,10 @@
 // Evaluates under the core's lock, so that no other thread comes in between.
 ghost use Rattle.std.specs.Prelude.{◌≡◌, false, length, IfOk, IfErr};
-ghost use Rattle.tmem_core.specs.SettleAnswer.{is_stale};
+ghost use Rattle.tmem_core.specs.SettleAnswer.{has_changed};
 ghost use Rattle.tmem_tentative.specs.Cursors.{HasEnded, attempt_of};
 ghost use Rattle.tmem_tentative.specs.Fits.{IsForVariables, IsForNames};
 ghost use Rattle.tmem_tentative.specs.Right.{IsRight};
-ghost use Rattle.tmem_tree.specs.Plans.{FitsSteps, FitsVariables, FitsNames, FitsShapes};
+ghost use Rattle.tmem_tree.specs.Plans.{FitsSteps, FitsVariables, FitsNames, FitsSignatures};
 ghost use Rattle.tmem_tree.specs.StepAnswers.{StepMeanings};
 ghost use Rattle.tmem_seats.specs.Histories.{state_after_history};
 
@@ -29,12 +29,12 @@ impl<N: StoreNaming, T: Invariants + Drop> CoreSeat<N, T> {
         requires steps { FitsSteps (S.arities steps.now) plan.now.tree }
         requires variables { FitsVariables (length N.opening.values) plan.now }
         requires names { FitsNames N.program.names plan.now.tree }
-        requires shapes { FitsShapes N.program.tests plan.now }
+        requires signatures { FitsSignatures N.program.tests plan.now }
         ensures ended { IfOk result (λ _. HasEnded cursor.new) }
         ensures right { (m : StepMeanings) → S.is_stated steps.now m → IfOk result (λ _. IsRight m N.program.tests plan.now.tree (attempt_of cursor.new)) }
         ensures variables { IfOk result (λ _. IsForVariables (length N.opening.values) (attempt_of cursor.new)) }
         ensures names { IfOk result (λ _. IsForNames N.program.names (attempt_of cursor.new)) }
-        ensures present { IfOk result (λ _. is_stale (state_after_history N.opening self.now.committed) (attempt_of cursor.new).reads.entries ≡ false) }
+        ensures present { IfOk result (λ _. has_changed (state_after_history N.opening self.now.committed) (attempt_of cursor.new).reads.entries ≡ false) }
         ensures memory { IfErr result (λ fault. fault ≡ Fault.Memory) }
     {
         cursor.restart(plan)?;

@@ -105,7 +105,7 @@ impl<N: StoreNaming, T: Invariants + Drop> CoreSeat<N, T> {
         ensures retries { RetriesAt (count N.name.start self.old.committed) result }
     {
         let durable = spine.trim(&mut self.side, pass);
-        self.core.note_durable(durable);
+        self.core.learn_durable(durable);
         let decision = self.core.decide(attempt);
         enter(spine, &mut self.side, pass, &decision, attempt);
         decision
@@ -152,7 +152,7 @@ impl<N: StoreNaming, T: Invariants + Drop> CoreSeat<N, T> {
         ensures begins { IsPrefix seat.old.known self.new.committed }
     {
         let durable = spine.trim(&mut self.side, seat);
-        self.core.note_durable(durable);
+        self.core.learn_durable(durable);
         spine.meet_core(&mut self.side, seat);
         self.count()
     }
@@ -203,7 +203,7 @@ impl<N: StoreNaming, T: Invariants + Drop> CoreSeat<N, T> {
         ensures oldest { TakesOldest self.old.committed journal.old.durable batch.new journal.new.aimed }
     {
         let durable = spine.trim_beside(&mut self.side, journal);
-        self.core.note_durable(durable);
+        self.core.learn_durable(durable);
         self.core.take(durable, batch);
         spine.aim(&mut self.side, journal, durable + batch.len() as u64);
     }
@@ -214,7 +214,7 @@ impl<N: StoreNaming, T: Invariants + Drop> CoreSeat<N, T> {
         ensures journal { journal.new ≡ journal.old }
     {
         let known = spine.trim_beside(&mut self.side, journal);
-        self.core.note_durable(known);
+        self.core.learn_durable(known);
     }
 
     /// How many transactions are committed.
@@ -252,7 +252,7 @@ impl<N: StoreNaming, T: Invariants + Drop> CoreSeat<N, T> {
         self.core.is_shut()
     }
 
-    /// Whether more than so many are committed, or it was shut: what a transaction waits for that retried. The look is counted.
+    /// Whether more than so many are committed, or it was shut: what a transaction waits for that retried. The try is counted.
     pub fn has_more(&mut self, at: u64) -> bool
         ensures more { IsTrue result ↔ HasMoreOrShut N.name.start at self.new }
         ensures same { self.new ≡ self.old }
@@ -262,7 +262,7 @@ impl<N: StoreNaming, T: Invariants + Drop> CoreSeat<N, T> {
     }
 
     /// Whether more than so many are known durable, or it was shut and no flush is to come: what a call waits for that awaits a flush.
-    /// The look is counted.
+    /// The try is counted.
     pub fn has_flushed(&mut self, number: u64) -> bool
         ensures more { IsTrue result ↔ HasFlushedOrEnded number self.new }
         ensures same { self.new ≡ self.old }
@@ -271,7 +271,7 @@ impl<N: StoreNaming, T: Invariants + Drop> CoreSeat<N, T> {
         number < self.durable() || self.is_shut() && !self.is_draining
     }
 
-    /// Whether fewer wait to be durable than may, or it was shut: what a transaction waits for that found no room. The look is counted.
+    /// Whether fewer wait to be durable than may, or it was shut: what a transaction waits for that found no room. The try is counted.
     pub fn has_room(&mut self) -> bool
         ensures room { IsTrue result ↔ HasRoomOrShut N.name.start self.new }
         ensures same { self.new ≡ self.old }
@@ -280,7 +280,7 @@ impl<N: StoreNaming, T: Invariants + Drop> CoreSeat<N, T> {
         self.count().saturating_sub(self.durable()) < MAX_WAITING as u64 || self.is_shut()
     }
 
-    /// Whether some are not known durable, or it was shut: what a flusher waits for. The look is counted.
+    /// Whether some are not known durable, or it was shut: what a flusher waits for. The try is counted.
     pub fn has_work(&mut self) -> bool
         ensures more { IsTrue result ↔ HasWorkOrShut N.name.start self.new }
         ensures same { self.new ≡ self.old }

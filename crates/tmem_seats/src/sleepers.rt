@@ -2,7 +2,7 @@
 use tmem_effect::Effect;
 use tmem_tentative::Reads;
 
-/// What each pass that sleeps has read, by the number of the pass, of which there are at most 32. It is a signature of 64 bits, one for
+/// What each pass that sleeps has read, by the number of the pass, of which there are at most 32: 64 bits each, one for
 /// each variable modulo 64, so a pass may be woken by a commit that writes none of what it read.
 #[derive(Drop)]
 pub(crate) struct Sleepers {

@@ -7,8 +7,8 @@ use Rattle.tmem_effect.specs.Prefix.{IsPrefix}
 use Rattle.tmem_effect.proofs.Laws.{IsPrefix-self, IsPrefix-length, IsPrefix-trans}
 use Rattle.tmem_spine.specs.declared.view.MarkedEffect.{MarkedEffect}
 use Rattle.tmem_spine.specs.declared.view.Role.{Role}
-use Rattle.tmem_spine.specs.declared.view.Role.TheVariants.{Core, Journal, Pass, Spent}
-use Rattle.tmem_spine.specs.declared.view.View.{View}
+use Rattle.tmem_spine.specs.declared.view.Role.TheVariants.{Core, Journal, Pass, Read}
+use Rattle.tmem_spine.specs.declared.view.SeatView.{SeatView}
 use Rattle.tmem_spine.specs.History.{count, longer}
 use Rattle.tmem_spine.specs.Rule.{History, IsHistory, IsPass, Fits, KeepsHistory}
 use Rattle.tmem_spine.specs.Steps.{told, Accepts, Aims, Stays, Hardens, Trims, Looks}
@@ -17,8 +17,8 @@ use Rattle.tmem_spine.proofs.Owning.{owns_more}
 use Rattle.tmem_spine.proofs.Keeps.{fits_as, kept_step}
 
 -- a seat of another role was not read
-pub unread : {r q : Role} → r ≡ q → q ≢ Spent → r ≢ Spent
-unread is other spent = other (sym is ∙ spent)
+pub unread : {r q : Role} → r ≡ q → q ≢ Read → r ≢ Read
+unread is other was_read = other (sym is ∙ was_read)
 
 -- what is durable is a prefix of what is committed
 pub durable_committed : (start : ℕ) (h : History) (words : List ℕ) → IsHistory start h words → IsPrefix h.durable h.committed
@@ -40,7 +40,7 @@ second_word : (start : ℕ) (h : History) (words : List ℕ) → IsHistory start
 second_word start h words is = ap (λ (ws : List ℕ). slice_index ws 1) is.counts
 
 -- what the others know fits once one effect more is committed
-committed_else : (start : ℕ) (h : History) (e : MarkedEffect) (j : ℕ) (u : View) → h.core ≢ j → Fits start h j u → Fits start (record h { committed = h.committed ++ e ∷ [] }) j u
+committed_else : (start : ℕ) (h : History) (e : MarkedEffect) (j : ℕ) (u : SeatView) → h.core ≢ j → Fits start h j u → Fits start (record h { committed = h.committed ++ e ∷ [] }) j u
 committed_else start h e j u other f = record {
   based = f.based;
   known = prefix_more u.known h.committed (e ∷ []) f.known;
@@ -52,7 +52,7 @@ committed_else start h e j u other f = record {
   is_pass = f.is_pass;
 }
 
-pub accepts : (start slots id : ℕ) (v : View) (carried : List (ℕ × ℕ)) (e : MarkedEffect) → v.role ≡ Core → count v.start v.committed + 1 < 2 ^ 64
+pub accepts : (start slots id : ℕ) (v : SeatView) (carried : List (ℕ × ℕ)) (e : MarkedEffect) → v.role ≡ Core → count v.start v.committed + 1 < 2 ^ 64
     → Allows (KeepsHistory start) slots id (v, carried) 0 (λ n. (n + 1) % 2 ^ 64) (told (Accepts e) (step slots 0 1 0 none) (v, carried))
 accepts start slots id v carried e role room s kept len at small =
     let h = kept.history in
@@ -84,7 +84,7 @@ accepts start slots id v carried e role room s kept len at small =
     )
 
 -- what the others know fits whatever the journal aims at
-aimed_else : (start : ℕ) (h : History) (xs : List MarkedEffect) (j : ℕ) (u : View) → h.journal ≢ j → Fits start h j u → Fits start (record h { aimed = xs }) j u
+aimed_else : (start : ℕ) (h : History) (xs : List MarkedEffect) (j : ℕ) (u : SeatView) → h.journal ≢ j → Fits start h j u → Fits start (record h { aimed = xs }) j u
 aimed_else start h xs j u other f = record {
   based = f.based;
   known = f.known;
@@ -96,7 +96,7 @@ aimed_else start h xs j u other f = record {
   is_pass = f.is_pass;
 }
 
-pub aims : (start slots id : ℕ) (v : View) (carried : List (ℕ × ℕ)) (upto : ℕ) → v.role ≡ Journal → count v.start v.durable ≤ upto → upto ≤ count v.start v.known
+pub aims : (start slots id : ℕ) (v : SeatView) (carried : List (ℕ × ℕ)) (upto : ℕ) → v.role ≡ Journal → count v.start v.durable ≤ upto → upto ≤ count v.start v.known
     → Allows (KeepsHistory start) slots id (v, carried) 0 (λ n. n) (told (Aims upto) (step slots 0 0 0 none) (v, carried))
 aims start slots id v carried upto role low high s kept len at small =
     let h = kept.history in
@@ -121,7 +121,7 @@ aims start slots id v carried upto role low high s kept len at small =
       (refl, (refl, subst (λ (ys : List MarkedEffect). IsPrefix ys xs) (sym mine.3) durable)),
     )
 
-pub stays : (start slots id : ℕ) (v : View) (carried : List (ℕ × ℕ)) → v.role ≡ Journal
+pub stays : (start slots id : ℕ) (v : SeatView) (carried : List (ℕ × ℕ)) → v.role ≡ Journal
     → Allows (KeepsHistory start) slots id (v, carried) 0 (λ n. n) (told Stays (step slots 0 0 0 none) (v, carried))
 stays start slots id v carried role s kept len at small =
     let h = kept.history in
@@ -140,7 +140,7 @@ stays start slots id v carried role s kept len at small =
     )
 
 -- what the others know fits once what the journal aims at is durable
-durable_else : (start : ℕ) (h : History) (j : ℕ) (u : View) → h.journal ≢ j → IsPrefix h.durable h.aimed → Fits start h j u → Fits start (record h { durable = h.aimed }) j u
+durable_else : (start : ℕ) (h : History) (j : ℕ) (u : SeatView) → h.journal ≢ j → IsPrefix h.durable h.aimed → Fits start h j u → Fits start (record h { durable = h.aimed }) j u
 durable_else start h j u other more f =
     let longer : length h.durable ≤ length h.aimed = IsPrefix-length h.durable h.aimed more in
     let trimmed : u.trimmed ≤ count start h.durable = f.trimmed in
@@ -155,7 +155,7 @@ durable_else start h j u other more f =
       is_pass = f.is_pass;
     }
 
-pub hardens : (start slots id : ℕ) (v : View) (carried : List (ℕ × ℕ)) (by : ℕ) → v.role ≡ Journal → length v.durable + by ≡ length v.aimed
+pub hardens : (start slots id : ℕ) (v : SeatView) (carried : List (ℕ × ℕ)) (by : ℕ) → v.role ≡ Journal → length v.durable + by ≡ length v.aimed
     → Allows (KeepsHistory start) slots id (v, carried) 1 (λ n. (n + by) % 2 ^ 64) (told Hardens (step slots 1 by 0 none) (v, carried))
 hardens start slots id v carried by role sum s kept len at small =
     let h = kept.history in
@@ -188,7 +188,7 @@ hardens start slots id v carried by role sum s kept len at small =
       (refl, refl),
     )
 
-pub trims : (start slots id : ℕ) (v : View) (carried : List (ℕ × ℕ)) → v.role ≡ Core
+pub trims : (start slots id : ℕ) (v : SeatView) (carried : List (ℕ × ℕ)) → v.role ≡ Core
     → Allows (KeepsHistory start) slots id (v, carried) 1 (λ n. n) (told Trims (step slots 1 0 0 none) (v, carried))
 trims start slots id v carried role s kept len at small =
     let h = kept.history in
@@ -222,7 +222,7 @@ trims start slots id v carried role s kept len at small =
       ),
     )
 
-pub looks : (start slots id : ℕ) (v : View) (carried : List (ℕ × ℕ)) → v.role ≡ Pass
+pub looks : (start slots id : ℕ) (v : SeatView) (carried : List (ℕ × ℕ)) → v.role ≡ Pass
     → Allows (KeepsHistory start) slots id (v, carried) 1 (λ n. n) (told Looks (step slots 1 0 0 none) (v, carried))
 looks start slots id v carried role s kept len at small =
     let h = kept.history in
@@ -232,7 +232,7 @@ looks start slots id v carried role s kept len at small =
     let based = f.based (unread role (λ r. absurd (cc r))) in
     let word = second_word start h s.words is in
     let l = longer_is v.known h.durable h.committed f.known (durable_committed start h s.words is) in
-    let w : View = record v { seen = h.durable; known = longer v.known h.durable } in
+    let w : SeatView = record v { seen = h.durable; known = longer v.known h.durable } in
     let is_pass : IsPass start w = (l.1, owns_more start v.mark v.known w.known v.own l.0 mine.0.1) in (
       w,
       keeps,

@@ -6,7 +6,7 @@ use Rattle.atomic_table.specs.Table.{State}
 use Rattle.tmem_effect.specs.declared.effect.Effect.{Effect}
 use Rattle.tmem_spine.specs.declared.view.MarkedEffect.{MarkedEffect}
 use Rattle.tmem_spine.specs.declared.view.Role.TheVariants.{Pass}
-use Rattle.tmem_spine.specs.declared.view.View.{View}
+use Rattle.tmem_spine.specs.declared.view.SeatView.{SeatView}
 use Rattle.tmem_spine.specs.History.{marked_effect, Has}
 use Rattle.tmem_spine.specs.Rule.{KeepsHistory}
 use Rattle.tmem_spine.proofs.Prefixes.{get_more}
@@ -15,7 +15,7 @@ use Rattle.tmem_spine.proofs.Owning.{owned_at}
 some_is : (x y : MarkedEffect) → Some x ≡ Some y → x ≡ y
 some_is x y e = cc e
 
-pub number_of_one : (start : ℕ) (s : State ℕ View) (i j : ℕ) (v w : View) (n : ℕ) (e f : Effect) → KeepsHistory start s → get_elem? s.views i ≡ some v → get_elem? s.views j ≡ some w
+pub number_of_one : (start : ℕ) (s : State ℕ SeatView) (i j : ℕ) (v w : SeatView) (n : ℕ) (e f : Effect) → KeepsHistory start s → get_elem? s.views i ≡ some v → get_elem? s.views j ≡ some w
     → v.role ≡ Pass → w.role ≡ Pass → Has v.own n e → Has w.own n f → i ≡ j
 number_of_one start s i j v w n e f kept there there' rv rw has has' =
     let h = kept.history in

@@ -6,7 +6,7 @@ use Rattle.tmem_effect.specs.Prefix.{IsPrefix}
 use Rattle.tmem_effect.specs.declared.effect.Effect.{Effect}
 use Rattle.tmem_effect.proofs.Laws.{IsPrefix-trans}
 use Rattle.tmem_spine.specs.declared.view.MarkedEffect.{MarkedEffect}
-use Rattle.tmem_spine.specs.declared.view.View.{View}
+use Rattle.tmem_spine.specs.declared.view.SeatView.{SeatView}
 use Rattle.tmem_spine.specs.History.{count, marked_effect, Has, HasAt}
 use Rattle.tmem_spine.specs.Rule.{IsPass, Owns}
 use Rattle.tmem_spine.proofs.Prefixes.{get_more, get_within}
@@ -32,10 +32,10 @@ owns_one start mark xs ys own n e p behind at o = record {
   stand = All-push (λ (x : ℕ × Effect). HasAt start ys x.0 (marked_effect mark x.1)) own (n, e) (owns_more start mark xs ys own p o).stand at;
 }
 
-pub pass_more : (start : ℕ) (v : View) (ys : List MarkedEffect) → IsPass start v → IsPrefix v.known ys → IsPass start (record v { known = ys })
+pub pass_more : (start : ℕ) (v : SeatView) (ys : List MarkedEffect) → IsPass start v → IsPrefix v.known ys → IsPass start (record v { known = ys })
 pass_more start v ys is more = (IsPrefix-trans v.seen v.known ys is.0 more, owns_more start v.mark v.known ys v.own more is.1)
 
-pub pass_one : (start : ℕ) (v : View) (ys : List MarkedEffect) (n : ℕ) (e : Effect) → IsPass start v → IsPrefix v.known ys → count start v.known ≤ n → HasAt start ys n (marked_effect v.mark e)
+pub pass_one : (start : ℕ) (v : SeatView) (ys : List MarkedEffect) (n : ℕ) (e : Effect) → IsPass start v → IsPrefix v.known ys → count start v.known ≤ n → HasAt start ys n (marked_effect v.mark e)
     → IsPass start (record v { known = ys; own = v.own ++ (n, e) ∷ [] })
 pass_one start v ys n e is more behind at = (IsPrefix-trans v.seen v.known ys is.0 more, owns_one start v.mark v.known ys v.own n e more behind at is.1)
 

@@ -6,8 +6,8 @@ use Rattle.atomic_table.specs.Table.{State}
 use Rattle.tmem_effect.specs.Prefix.{IsPrefix}
 use Rattle.tmem_effect.specs.declared.effect.Effect.{Effect}
 use Rattle.tmem_spine.specs.declared.view.MarkedEffect.{MarkedEffect}
-use Rattle.tmem_spine.specs.declared.view.Role.TheVariants.{Start, Core, Journal, Pass, Spent}
-use Rattle.tmem_spine.specs.declared.view.View.{View}
+use Rattle.tmem_spine.specs.declared.view.Role.TheVariants.{Start, Core, Journal, Pass, Read}
+use Rattle.tmem_spine.specs.declared.view.SeatView.{SeatView}
 use Rattle.tmem_spine.specs.History.{count, marked_effect, HasAt}
 
 -- What is committed, aimed at and durable, which seats are the core's and the journal's, how many passes were given out, and
@@ -36,25 +36,25 @@ pub record Owns (start mark : ℕ) (known : List MarkedEffect) (own : List (ℕ 
   pub stand : All (λ (x : ℕ × Effect). HasAt start known x.0 (marked_effect mark x.1)) own
 
 -- what a pass saw is a prefix of what it knows, in which its own effects stand
-abbrev pub IsPass : ℕ → View → Type 0
+abbrev pub IsPass : ℕ → SeatView → Type 0
 IsPass start v = IsPrefix v.seen v.known × Owns start v.mark v.known v.own
 
 -- the first seat sees that nothing has happened
-abbrev pub IsStart : ℕ → History → ℕ → View → Type 0
+abbrev pub IsStart : ℕ → History → ℕ → SeatView → Type 0
 IsStart start h id v = (id ≡ h.core) × (h.committed ≡ []) × (h.has_journal ≡ false) × (v.committed ≡ []) × (v.given ≡ h.given)
 
 -- the core sees what is committed
-abbrev pub IsCore : History → ℕ → View → Type 0
+abbrev pub IsCore : History → ℕ → SeatView → Type 0
 IsCore h id v = (id ≡ h.core) × (v.committed ≡ h.committed) × (v.given ≡ h.given)
 
 -- the journal sees what it aims at and what is durable
-abbrev pub IsJournal : History → ℕ → View → Type 0
+abbrev pub IsJournal : History → ℕ → SeatView → Type 0
 IsJournal h id v = (id ≡ h.journal) × (h.has_journal ≡ true) × (v.aimed ≡ h.aimed) × (v.durable ≡ h.durable)
 
 -- What a seat knows is so: what it knows is a prefix of what is committed, what it saw is a prefix of what is durable, and at
 -- least so many are durable as it was trimmed to.
-pub record Fits (start : ℕ) (h : History) (id : ℕ) (v : View) : Type 0 where
-  pub based : v.role ≢ Spent → v.start ≡ start
+pub record Fits (start : ℕ) (h : History) (id : ℕ) (v : SeatView) : Type 0 where
+  pub based : v.role ≢ Read → v.start ≡ start
   pub known : IsPrefix v.known h.committed
   pub seen : IsPrefix v.seen h.durable
   pub trimmed : v.trimmed ≤ count start h.durable
@@ -64,16 +64,16 @@ pub record Fits (start : ℕ) (h : History) (id : ℕ) (v : View) : Type 0 where
   pub is_pass : v.role ≡ Pass → IsPass start v × (v.mark < h.given)
 
 -- what each seat knows is so
-abbrev pub Each : ℕ → History → List View → Type 0
-Each start h views = (id : ℕ) (v : View) → get_elem? views id ≡ some v → Fits start h id v
+abbrev pub Each : ℕ → History → List SeatView → Type 0
+Each start h views = (id : ℕ) (v : SeatView) → get_elem? views id ≡ some v → Fits start h id v
 
 -- no two passes have one mark
-abbrev pub Apart : List View → Type 0
-Apart views = (i j : ℕ) (v w : View) → get_elem? views i ≡ some v → get_elem? views j ≡ some w → v.role ≡ Pass → w.role ≡ Pass
+abbrev pub Apart : List SeatView → Type 0
+Apart views = (i j : ℕ) (v w : SeatView) → get_elem? views i ≡ some v → get_elem? views j ≡ some w → v.role ≡ Pass → w.role ≡ Pass
     → v.mark ≡ w.mark → i ≡ j
 
 -- there is one history, which the words count and of which each seat knows a part, and no two passes have one mark
-pub record KeepsHistory (start : ℕ) (s : State ℕ View) : Type 0 where
+pub record KeepsHistory (start : ℕ) (s : State ℕ SeatView) : Type 0 where
   pub history : History
   pub is_history : IsHistory start history s.words
   pub each : Each start history s.views

@@ -2,19 +2,19 @@
 use Rattle.std.specs.Prelude.{◌≡◌, ℕ, []}
 use Rattle.atomic_table.specs.declared.shared.Seat.{Seat}
 use Rattle.tmem_spine.specs.declared.view.Role.TheVariants.{Pass}
-use Rattle.tmem_spine.specs.declared.view.View.{View}
+use Rattle.tmem_spine.specs.declared.view.SeatView.{SeatView}
 use Rattle.tmem_spine.specs.History.{count}
 use Rattle.tmem_spine.specs.Rule.{IsPass}
 use Rattle.tmem_spine.specs.Views.{SpineName}
 
 -- the seat is of this spine
-pub record IsOf (name : SpineName) (s : Seat ℕ View) : Type 0 where
+pub record IsOf (name : SpineName) (s : Seat ℕ SeatView) : Type 0 where
   pub table : s.table_id ≡ name.table
   pub empty : s.me.1 ≡ []
   pub based : s.me.0.start ≡ name.start
 
 -- what the seat of a pass knows, whose greatest answer is this number
-pub record IsPassOf (name : SpineName) (most : ℕ) (v : View) : Type 0 where
+pub record IsPassOf (name : SpineName) (most : ℕ) (v : SeatView) : Type 0 where
   pub role : v.role ≡ Pass
   pub saw : most ≡ count name.start v.seen
   pub is_pass : IsPass name.start v

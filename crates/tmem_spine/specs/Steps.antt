@@ -4,15 +4,15 @@ use Rattle.atomic_table.specs.Table.{Me, Step}
 use Rattle.tmem_effect.specs.Prefix.{IsPrefix}
 use Rattle.tmem_effect.specs.declared.effect.Effect.{Effect}
 use Rattle.tmem_spine.specs.declared.view.MarkedEffect.{MarkedEffect}
-use Rattle.tmem_spine.specs.declared.view.View.{View}
+use Rattle.tmem_spine.specs.declared.view.SeatView.{SeatView}
 use Rattle.tmem_spine.specs.History.{count, longer}
 use Rattle.tmem_spine.specs.Rule.{IsPass}
 
 abbrev pub Kind : Type 1
-Kind = View → ℕ → View → Type 0
+Kind = SeatView → ℕ → SeatView → Type 0
 
 -- a step on the table tells so
-abbrev pub told : Kind → Step ℕ → Me ℕ View → ℕ → Me ℕ View → Type 0
+abbrev pub told : Kind → Step ℕ → Me ℕ SeatView → ℕ → Me ℕ SeatView → Type 0
 told kind st m n m' = (m'.1 ≡ m.1) × kind m.0 n m'.0
 
 -- accept: the core raises the committed word by one, for one effect
@@ -48,13 +48,13 @@ Looks v n w =
     × IsPrefix v.known w.known × IsPass v.start w
 
 -- meet, beside the core: a pass knows all that is committed
-abbrev pub meets_core : View → View → View
+abbrev pub meets_core : SeatView → SeatView → SeatView
 meets_core v w = record v { known = w.known }
 
 -- the same, and an effect there is its own
-abbrev pub gains : ℕ → Effect → View → View → View
+abbrev pub gains : ℕ → Effect → SeatView → SeatView → SeatView
 gains number effect v w = record v { known = w.known; own = v.own ++ (number, effect) ∷ [] }
 
 -- meet, beside the journal: a pass knows at least what is durable
-abbrev pub meets_journal : View → View → View
+abbrev pub meets_journal : SeatView → SeatView → SeatView
 meets_journal v w = record v { known = longer v.known w.known }

@@ -3,7 +3,7 @@ use Rattle.std.specs.Prelude.{ℕ, List, []}
 use Rattle.atomic_table.specs.Seated.{TableId}
 use Rattle.tmem_effect.specs.declared.effect.Effect.{Effect}
 use Rattle.tmem_spine.specs.declared.view.MarkedEffect.{MarkedEffect}
-use Rattle.tmem_spine.specs.declared.view.View.{View}
+use Rattle.tmem_spine.specs.declared.view.SeatView.{SeatView}
 
 -- which spine it is: its table, and the count at which its history starts
 pub record SpineName : Type 0 where
@@ -28,13 +28,13 @@ pub record PassRoleView : Type 0 where
   pub seen : List MarkedEffect
   pub own : List (ℕ × Effect)
 
-abbrev pub core_role_view : View → CoreRoleView
+abbrev pub core_role_view : SeatView → CoreRoleView
 core_role_view v = record { committed = v.committed; trimmed = v.trimmed; given = v.given }
 
-abbrev pub journal_role_view : View → JournalRoleView
+abbrev pub journal_role_view : SeatView → JournalRoleView
 journal_role_view v = record { aimed = v.aimed; durable = v.durable }
 
-abbrev pub pass_role_view : View → PassRoleView
+abbrev pub pass_role_view : SeatView → PassRoleView
 pass_role_view v = record { mark = v.mark; known = v.known; seen = v.seen; own = v.own }
 
 -- the core before it has committed anything

@@ -1,9 +1,9 @@
 // What each step on the table tells, and how views are cut in two and joined.
 ghost use Rattle.tmem_spine.specs.Steps.{told, Accepts, Aims, Stays, Hardens, Trims, Looks, meets_core, gains, meets_journal};
-ghost use Rattle.tmem_spine.specs.Notes.{as_core, journal_from, pass_from, gives, note, spent, core_told, journal_told};
+ghost use Rattle.tmem_spine.specs.Notes.{as_core, journal_from, pass_from, gives, note, read_note, core_told, journal_told};
 ghost use Rattle.std.specs.Prelude.{[]};
 
-use crate::view::View;
+use crate::view::SeatView;
 use atomic_table::{Join, Play, Split};
 use std::marker::{Brand, PhantomData};
 
@@ -30,7 +30,7 @@ pub(crate) struct Accept<C> {
     choice: PhantomData<C>,
 }
 
-impl<C: Choice> Play<u8, View> for Accept<C> {
+impl<C: Choice> Play<u8, SeatView> for Accept<C> {
     ghost then = { told (Accepts C.picked) };
 }
 
@@ -38,38 +38,38 @@ pub(crate) struct Aim<C> {
     choice: PhantomData<C>,
 }
 
-impl<C: Choice> Play<u8, View> for Aim<C> {
+impl<C: Choice> Play<u8, SeatView> for Aim<C> {
     ghost then = { told (Aims C.number) };
 }
 
 pub(crate) struct Stay;
 
-impl Play<u8, View> for Stay {
+impl Play<u8, SeatView> for Stay {
     ghost then = { told Stays };
 }
 
 pub(crate) struct Harden;
 
-impl Play<u8, View> for Harden {
+impl Play<u8, SeatView> for Harden {
     ghost then = { told Hardens };
 }
 
 pub(crate) struct Trim;
 
-impl Play<u8, View> for Trim {
+impl Play<u8, SeatView> for Trim {
     ghost then = { told Trims };
 }
 
 pub(crate) struct Look;
 
-impl Play<u8, View> for Look {
+impl Play<u8, SeatView> for Look {
     ghost then = { told Looks };
 }
 
 /// The first seat becomes the core's, and the journal gets one.
 pub(crate) struct Begin;
 
-impl Split<View> for Begin {
+impl Split<SeatView> for Begin {
     ghost left = { as_core };
 
     ghost right = { journal_from };
@@ -78,7 +78,7 @@ impl Split<View> for Begin {
 /// The core gives out a pass.
 pub(crate) struct Give;
 
-impl Split<View> for Give {
+impl Split<SeatView> for Give {
     ghost left = { gives };
 
     ghost right = { pass_from };
@@ -87,7 +87,7 @@ impl Split<View> for Give {
 /// The core writes a note of what is committed, and of how many it knows to be durable.
 pub(crate) struct CoreTells;
 
-impl Split<View> for CoreTells {
+impl Split<SeatView> for CoreTells {
     ghost left = { λ v. v };
 
     ghost right = { λ v. note v.start v.committed [] v.trimmed };
@@ -96,7 +96,7 @@ impl Split<View> for CoreTells {
 /// The journal writes a note of what is durable.
 pub(crate) struct JournalTells;
 
-impl Split<View> for JournalTells {
+impl Split<SeatView> for JournalTells {
     ghost left = { λ v. v };
 
     ghost right = { λ v. note v.start v.durable v.durable 0 };
@@ -105,7 +105,7 @@ impl Split<View> for JournalTells {
 /// A pass writes a note of what it knows and what it saw.
 pub(crate) struct PassTells;
 
-impl Split<View> for PassTells {
+impl Split<SeatView> for PassTells {
     ghost left = { λ v. v };
 
     ghost right = { λ v. note v.start v.known v.seen 0 };
@@ -114,28 +114,28 @@ impl Split<View> for PassTells {
 /// The core reads a note.
 pub(crate) struct CoreHears;
 
-impl Join<View> for CoreHears {
+impl Join<SeatView> for CoreHears {
     ghost both = { core_told };
 
-    ghost spent = { spent };
+    ghost spent = { read_note };
 }
 
 /// The journal reads a note.
 pub(crate) struct JournalHears;
 
-impl Join<View> for JournalHears {
+impl Join<SeatView> for JournalHears {
     ghost both = { journal_told };
 
-    ghost spent = { spent };
+    ghost spent = { read_note };
 }
 
 /// A pass meets the core, by its note.
 pub(crate) struct MeetCore;
 
-impl Join<View> for MeetCore {
+impl Join<SeatView> for MeetCore {
     ghost both = { meets_core };
 
-    ghost spent = { spent };
+    ghost spent = { read_note };
 }
 
 /// A pass meets the core, and an effect there is its own.
@@ -143,17 +143,17 @@ pub(crate) struct Gain<C> {
     choice: PhantomData<C>,
 }
 
-impl<C: Choice> Join<View> for Gain<C> {
+impl<C: Choice> Join<SeatView> for Gain<C> {
     ghost both = { gains C.number C.picked.effect };
 
-    ghost spent = { spent };
+    ghost spent = { read_note };
 }
 
 /// A pass meets the journal, by its note.
 pub(crate) struct MeetJournal;
 
-impl Join<View> for MeetJournal {
+impl Join<SeatView> for MeetJournal {
     ghost both = { meets_journal };
 
-    ghost spent = { spent };
+    ghost spent = { read_note };
 }

@@ -5,7 +5,7 @@ ghost use lib.ListN.{get_elem?};
 ghost use Rattle.atomic_table.specs.Table.{State};
 ghost use Rattle.tmem_effect.specs.declared.effect.Effect.{Effect};
 ghost use Rattle.tmem_spine.specs.declared.view.Role.TheVariants as role;
-ghost use Rattle.tmem_spine.specs.declared.view.View.{View as ViewOf};
+ghost use Rattle.tmem_spine.specs.declared.view.SeatView.{SeatView as ViewOf};
 ghost use Rattle.tmem_spine.specs.History.{Has};
 ghost use Rattle.tmem_spine.specs.Rule.{KeepsHistory};
 

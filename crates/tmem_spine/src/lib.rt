@@ -25,4 +25,4 @@ pub use naming::Naming;
 pub use opened::Opened;
 pub use seats::{CoreSide, JournalSide, PassSide};
 pub use spine::{MOST_PASSES, Spine};
-pub use view::{Law, MarkedEffect, Role, View};
+pub use view::{Law, MarkedEffect, Role, SeatView};

@@ -7,7 +7,7 @@ use crate::naming::Naming;
 use crate::place::Place;
 use crate::seats::{CoreSide, JournalSide};
 use crate::spine::Spine;
-use crate::view::{Law, View};
+use crate::view::{Law, SeatView};
 use atomic_table::{Seat, Table};
 use std::alloc::{AllocError, Global};
 use std::marker::{Model, PhantomData};
@@ -16,8 +16,8 @@ use std::marker::{Model, PhantomData};
 /// hands it to a function that is generic in `Naming`, and calls that at `Brand`.
 #[derive(Drop)]
 pub struct Opened {
-    table: Table<u8, View, u64, Law, Global>,
-    seat: Seat<u8, View>,
+    table: Table<u8, SeatView, u64, Law, Global>,
+    seat: Seat<u8, SeatView>,
     start: u64,
 }
 

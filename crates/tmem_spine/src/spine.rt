@@ -7,7 +7,7 @@ ghost use Rattle.tmem_spine.specs.Views.{new_pass};
 
 use crate::naming::Naming;
 use crate::seats::{CoreSide, JournalSide, PassSide};
-use crate::view::{Law, View};
+use crate::view::{Law, SeatView};
 use atomic_table::Table;
 use std::alloc::Global;
 use std::marker::{Brand, PhantomData};
@@ -19,7 +19,7 @@ pub const MOST_PASSES: u64 = 32;
 /// The two words: how many transactions were committed, and how many of them are durable.
 #[derive(Drop)]
 pub struct Spine<N: Naming> {
-    pub(crate) table: Table<u8, View, u64, Law, Global>,
+    pub(crate) table: Table<u8, SeatView, u64, Law, Global>,
     pub(crate) start: u64,
     pub(crate) of: PhantomData<N>,
 

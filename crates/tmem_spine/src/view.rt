@@ -1,4 +1,4 @@
-// What a seat knows, in one shape for all seats. No value of these types is made: they exist in the proofs alone.
+// What a seat knows, in one form for all seats. No value of these types is made: they exist in the proofs alone.
 use atomic_table::TableRule;
 use std::collections::LinkedList;
 use tmem_effect::Effect;
@@ -21,12 +21,12 @@ pub enum Role {
     /// A note with which one seat tells another what it knows.
     Note,
     /// A note that was read.
-    Spent,
+    Read,
 }
 
 /// What a seat knows. The fields of another role are empty.
 #[derive(Drop)]
-pub struct View {
+pub struct SeatView {
     pub role: Role,
     /// The count before the first effect of the history.
     pub start: u64,
@@ -50,10 +50,10 @@ pub struct View {
     pub trimmed: u64,
 }
 
-/// The rule of the history. Word 0 counts what is committed, word 1 what is durable. The table has no slots.
+/// The rule of the history. Word 0 counts what is committed, word 1 what is durable. The `atomic_table` has no slots.
 pub struct Law;
 
-impl TableRule<u8, View, u64> for Law {
+impl TableRule<u8, SeatView, u64> for Law {
     ghost use Rattle.tmem_spine.specs.Rule.{KeepsHistory};
     ghost use Rattle.tmem_spine.specs.Notes.{first_view};
 

@@ -1,3 +1,3 @@
 pub mod Bounds
 pub mod Sums
-pub mod Verdicts
+pub mod EntryFaults

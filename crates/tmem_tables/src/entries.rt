@@ -5,7 +5,7 @@ ghost use Rattle.tmem_invariants.specs.Answers.{IsMeant};
 ghost use Rattle.tmem_invariants.specs.Meanings.{Meanings, holds};
 ghost use Rattle.tmem_invariants.specs.Indices.{AreAsked};
 ghost use Rattle.tmem_invariants.specs.TableNames.{AreBelow, AreDistinct, AreTableNames, has_name, name_at};
-ghost use Rattle.tmem_tables.specs.Verdicts.{IsVerdict};
+ghost use Rattle.tmem_tables.specs.EntryFaults.{IsEntryFault};
 
 use crate::entry::{TableEntry, is_true};
 use crate::indices::{lowest_index, without_index};
@@ -14,7 +14,7 @@ use tmem_invariants::MAX_INVARIANTS;
 
 // Why these make no table over so many variables, if they make none: `BadName` comes before `BadFootprint`.
 pub(crate) fn fault_of<E: TableEntry>(entries: &[E], vars: u16) -> Option<Fault>
-    ensures { IsVerdict (AreTableNames (map E.name entries.now)) (All (λ entry. AreBelow vars (E.footprint entry)) entries.now) result }
+    ensures { IsEntryFault (AreTableNames (map E.name entries.now)) (All (λ entry. AreBelow vars (E.footprint entry)) entries.now) result }
 {
     if entries.len() > MAX_INVARIANTS || !have_distinct_names(entries) {
         return Some(Fault::BadName);

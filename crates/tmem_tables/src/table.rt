@@ -151,7 +151,7 @@ impl Invariants for Table {
 
     ghost distinct = { λ table. table.distinct };
 
-    ghost use Rattle.tmem_invariants.specs.Chosen.{chosen_meanings};
+    ghost use Rattle.tmem_invariants.specs.Joined.{joined_meanings};
 
-    ghost has_meanings = { λ table. chosen_meanings _ _ _ (λ entry. entry.stated) table.entries.items table.distinct };
+    ghost has_meanings = { λ table. joined_meanings _ _ _ (λ entry. entry.stated) table.entries.items table.distinct };
 }

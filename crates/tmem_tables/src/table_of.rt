@@ -151,7 +151,7 @@ impl<E: TableEntry> Invariants for TableOf<E> {
 
     ghost distinct = { λ table. table.distinct };
 
-    ghost use Rattle.tmem_invariants.specs.Chosen.{chosen_meanings};
+    ghost use Rattle.tmem_invariants.specs.Joined.{joined_meanings};
 
-    ghost has_meanings = { λ table. chosen_meanings E.name E.footprint E.answers E.has_meaning table.entries.items table.distinct };
+    ghost has_meanings = { λ table. joined_meanings E.name E.footprint E.answers E.has_meaning table.entries.items table.distinct };
 }

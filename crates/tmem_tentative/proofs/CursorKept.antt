@@ -4,7 +4,7 @@ use Rattle.indexmap.specs.IndexMap.{insert_entry}
 use Rattle.tmem_invariants.specs.Meanings.{Meanings}
 use Rattle.tmem_tree.specs.declared.tx.Tx.{Tx}
 use Rattle.tmem_tree.specs.Plans.{PlanView}
-use Rattle.tmem_tree.specs.Shapes.{footprint_in}
+use Rattle.tmem_tree.specs.Signatures.{footprint_in}
 use Rattle.tmem_tree.specs.StepAnswers.{StepMeanings}
 use Rattle.tmem_tree.specs.Visited.{Visit, Probe}
 use Rattle.tmem_tentative.specs.declared.attempt.Outcome.TheVariants as outcome
@@ -45,7 +45,7 @@ module _ (old new : Cursor) (same : IsAsBefore old new) where
     stays at = subst (λ s. IsAtStage m footprint plan s new) (sym same.stage) (stays_at_stage old.stage at)
 
   pub stays_in : (m : StepMeanings) (plan : PlanView) → StandsIn m plan old → StandsIn m plan new
-  stays_in m plan stands = stays m (footprint_in plan.shapes) plan.tree stands
+  stays_in m plan stands = stays m (footprint_in plan.signatures) plan.tree stands
 
   pub stays_at : (m : StepMeanings) (tests : Meanings) (plan : Tx) → IsAt m tests plan old → IsAt m tests plan new
   stays_at m tests plan at = record {

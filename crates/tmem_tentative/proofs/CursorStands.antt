@@ -7,10 +7,10 @@ use Rattle.tmem_invariants.specs.Meanings.{Meanings}
 use Rattle.tmem_effect.specs.State.{no_effect}
 use Rattle.tmem_effect.specs.Writes.{value_in}
 use Rattle.tmem_tree.specs.Limits.{choices}
-use Rattle.tmem_tree.specs.Plans.{PlanView, IsWithinLimits, FitsSteps, HasShapes}
+use Rattle.tmem_tree.specs.Plans.{PlanView, IsWithinLimits, FitsSteps, HasSignatures}
 use Rattle.tmem_tree.specs.Run.{no_registers}
-use Rattle.tmem_tree.specs.Shapes.{footprint_in, names_of}
-use Rattle.tmem_tree.specs.declared.shape.Shape.{Shape}
+use Rattle.tmem_tree.specs.Signatures.{footprint_in, names_of}
+use Rattle.tmem_tree.specs.declared.signature.Signature.{Signature}
 use Rattle.tmem_tree.specs.declared.tx.Tx.{Tx}
 use Rattle.tmem_tree.specs.StepAnswers.{StepMeanings}
 use Rattle.tmem_tree.specs.Visited.{Ask, Visit, Probe}
@@ -51,9 +51,9 @@ at_right m tests plan cursor p at is =
     made_right m tests plan (given cursor) (answers cursor) (unused cursor) (outcome_of cursor p) at.answered (at_made m tests.footprint plan cursor p at.stands is)
 
 -- and it fits the plan
-pub stands_fit : {IsStated : StepMeanings → Type 0} (plan : PlanView) (cursor : Cursor) (p : Progress) → ∥ ((m : StepMeanings) × IsStated m) ∥₁ → HasShapes (names_of plan.shapes) plan.tree → ((m : StepMeanings) → IsStated m → StandsIn m plan cursor) → Answered cursor p → FitsPlan (given cursor) plan (outcome_of cursor p)
-stands_fit plan cursor p some shaped stands is =
-    made_fits_plan some shaped (given cursor) (answers cursor) (unused cursor) (outcome_of cursor p) (λ m stated. at_made m (footprint_in plan.shapes) plan.tree cursor p (stands m stated) is)
+pub stands_fit : {IsStated : StepMeanings → Type 0} (plan : PlanView) (cursor : Cursor) (p : Progress) → ∥ ((m : StepMeanings) × IsStated m) ∥₁ → HasSignatures (names_of plan.signatures) plan.tree → ((m : StepMeanings) → IsStated m → StandsIn m plan cursor) → Answered cursor p → FitsPlan (given cursor) plan (outcome_of cursor p)
+stands_fit plan cursor p some covered stands is =
+    made_fits_plan some covered (given cursor) (answers cursor) (unused cursor) (outcome_of cursor p) (λ m stated. at_made m (footprint_in plan.signatures) plan.tree cursor p (stands m stated) is)
 
 -- with the same values and answers, where it stands too
 pub at_still : (m : StepMeanings) (tests : Meanings) (plan : Tx) (old new : Cursor) → IsAtStage m tests.footprint plan new.stage new → given new ≡ given old → answers new ≡ answers old → IsAt m tests plan old → IsAt m tests plan new
@@ -96,10 +96,10 @@ end_reads old new (Abort code) is = ap (λ rs. rs.entries) is.0
 end_reads old new (Broken name) is = ap (λ rs. rs.entries) is.0
 
 -- a run may go on from where the cursor stands
-pub may_run : {IsStated : StepMeanings → Type 0} {arities : List ℕ} (plan : PlanView) (cursor : Cursor) → ∥ ((m : StepMeanings) × IsStated m) ∥₁ → IsWithinLimits plan.tree → FitsSteps arities plan.tree → HasShapes (names_of plan.shapes) plan.tree → cursor.stage ≡ Going
-    → ((m : StepMeanings) → IsStated m → StandsIn m plan cursor) → MayRunFrom arities (names_of plan.shapes) plan.tree (place cursor)
+pub may_run : {IsStated : StepMeanings → Type 0} {arities : List ℕ} (plan : PlanView) (cursor : Cursor) → ∥ ((m : StepMeanings) × IsStated m) ∥₁ → IsWithinLimits plan.tree → FitsSteps arities plan.tree → HasSignatures (names_of plan.signatures) plan.tree → cursor.stage ≡ Going
+    → ((m : StepMeanings) → IsStated m → StandsIn m plan cursor) → MayRunFrom arities (names_of plan.signatures) plan.tree (place cursor)
 may_run plan cursor some limits steps known going stands =
-    let may : MayGoOn plan.tree (place cursor) = ∥∥₁_elim some (MayGoOn-prop plan.tree (place cursor)) (λ p. (subst (λ s. IsAtStage p.0 (footprint_in plan.shapes) plan.tree s cursor) going (stands p.0 p.1)).0) in
+    let may : MayGoOn plan.tree (place cursor) = ∥∥₁_elim some (MayGoOn-prop plan.tree (place cursor)) (λ p. (subst (λ s. IsAtStage p.0 (footprint_in plan.signatures) plan.tree s cursor) going (stands p.0 p.1)).0) in
     record { registers = limits.registers; steps = steps; known = known; deep = limits.shallow; enough = may.enough; writes = (0, may.writes); names = (0, may.names); retires = (0, may.retires) }
 
 -- how a run has come out that has ended so
@@ -144,7 +144,7 @@ module _ (m : StepMeanings) (footprint : List ℕ → List ℕ) (plan : Tx) (old
   here : MayGoOn plan (place old) × EvaluationStandsAt m footprint plan (answers old) (place old) (given old) (taken old)
   here = subst (λ s. IsAtStage m footprint plan s old) going at
 
-  module _ {IsStated : StepMeanings → Type 0} {shapes : List Shape} {saves : List Save} {left : List Bool} {ask : Ask} (long : length saves ≡ length old.saves.items) (run : RunsTo IsStated shapes (taken old) plan (place old) (Stopped ask) (place_at course saves) left) (leads : LeadsTo m footprint (taken old) plan (place old) (Stopped ask) (place_at course saves) left) where
+  module _ {IsStated : StepMeanings → Type 0} {signatures : List Signature} {saves : List Save} {left : List Bool} {ask : Ask} (long : length saves ≡ length old.saves.items) (run : RunsTo IsStated signatures (taken old) plan (place old) (Stopped ask) (place_at course saves) left) (leads : LeadsTo m footprint (taken old) plan (place old) (Stopped ask) (place_at course saves) left) where
     may_still : MayGoOn plan (place_at course saves)
     may_still = record { enough = omega (arith, here.0.enough, long); writes = run.writes 0 here.0.writes; names = run.names 0 here.0.names; retires = run.retires 0 here.0.retires }
 
@@ -155,7 +155,7 @@ module _ (m : StepMeanings) (footprint : List ℕ → List ℕ) (plan : Tx) (old
     stands_still n = subst (λ rs. EvaluationStandsAt m footprint plan (answers old) (place_at course saves) rs.entries (record { reads = read_behind (Stopped ask) rs.entries n; left = left })) (sym reads) (goes_on m footprint plan (answers old) (place old) (taken old) here.1 leads n)
 
   -- a cursor that has gone on to a value that it needs
-  pub waits_at : {IsStated : StepMeanings → Type 0} {shapes : List Shape} {saves : List Save} {left : List Bool} {var : ℕ} → IsStated m → AreOf shapes footprint → length saves ≡ length old.saves.items → RunsTo IsStated shapes (taken old) plan (place old) (Stopped (Visit var)) (place_at course saves) left
+  pub waits_at : {IsStated : StepMeanings → Type 0} {signatures : List Signature} {saves : List Save} {left : List Bool} {var : ℕ} → IsStated m → AreOf signatures footprint → length saves ≡ length old.saves.items → RunsTo IsStated signatures (taken old) plan (place old) (Stopped (Visit var)) (place_at course saves) left
       → MayGoOn plan (place_at course saves) × AsksFor m footprint plan course.attempt.reads.entries (answers old) (Visit var)
       × ((n : ℤ) → EvaluationStandsAt m footprint plan (answers old) (place_at course saves) course.attempt.reads.entries (record { reads = insert_entry nat_eq course.attempt.reads.entries var n; left = left }))
   waits_at stated of long run =
@@ -163,7 +163,7 @@ module _ (m : StepMeanings) (footprint : List ℕ → List ℕ) (plan : Tx) (old
       (may_still long run leads, asks_still long run leads, stands_still long run leads)
 
   -- one that has gone on to a test
-  pub tests_at : {IsStated : StepMeanings → Type 0} {shapes : List Shape} {saves : List Save} {left : List Bool} {name : List ℕ} {values : List ℤ} → IsStated m → AreOf shapes footprint → length saves ≡ length old.saves.items → RunsTo IsStated shapes (taken old) plan (place old) (Stopped (Probe name values)) (place_at course saves) left
+  pub tests_at : {IsStated : StepMeanings → Type 0} {signatures : List Signature} {saves : List Save} {left : List Bool} {name : List ℕ} {values : List ℤ} → IsStated m → AreOf signatures footprint → length saves ≡ length old.saves.items → RunsTo IsStated signatures (taken old) plan (place old) (Stopped (Probe name values)) (place_at course saves) left
       → MayGoOn plan (place_at course saves) × AsksFor m footprint plan course.attempt.reads.entries (answers old) (Probe name values)
       × EvaluationStandsAt m footprint plan (answers old) (place_at course saves) course.attempt.reads.entries (record { reads = course.attempt.reads.entries; left = left }) × (left ≡ [])
   tests_at {name = name} {values = values} stated of long run =

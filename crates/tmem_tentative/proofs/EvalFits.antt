@@ -20,7 +20,7 @@ use Rattle.tmem_effect.specs.declared.effect.Effect.{Effect}
 use Rattle.tmem_effect.specs.Names.{has_name, with_name, without_name, AreApart}
 use Rattle.tmem_effect.specs.Writes.{value_in, with_write}
 use Rattle.tmem_effect.proofs.Laws.{AreApart-check, AreApart-retire, All-with_name, All-without_names, length-without_name-le}
-use Rattle.tmem_tree.specs.Limits.{one_if, count, count_all, is_write, is_check, is_retire, has_bad_variable, has_unknown_name, lacks_shape}
+use Rattle.tmem_tree.specs.Limits.{one_if, count, count_all, is_write, is_check, is_retire, has_bad_variable, has_unknown_name, lacks_signature}
 use Rattle.tmem_tree.specs.Run.{register, is_zero}
 use Rattle.tmem_tentative.proofs.ReadEntries.{write_is_insert}
 use Rattle.tmem_tentative.specs.Eval.{RunState, Taken, Leaving, Gives_up, Breaks, Flow, Goes, Stops, Retries, Leaves, FootprintSeen, Lacks, Found, eval, eval_all, then_eval, else_eval, read, eval_answered, saw, eval_check, before, see_first, footprint_seen, tested, eval_checked}
@@ -214,7 +214,7 @@ module _ (Q R U : Type 0) (vars : ℕ) (names : List (List ℕ)) where
 
     mutual
       pub good : (Q → (name : List ℕ) → AreBelow vars (footprint name)) → (tx : Tx) (w c r w' c' r' : ℕ) (s : RunState) → w + count is_write tx ≤ w' → c + count is_check tx ≤ c' → r + count is_retire tx ≤ r'
-          → (Q → count (has_bad_variable vars) tx ≡ 0) → (R → count (lacks_shape names) tx ≡ 0) → (U → count (has_unknown_name names) tx ≡ 0)
+          → (Q → count (has_bad_variable vars) tx ≡ 0) → (R → count (lacks_signature names) tx ≡ 0) → (U → count (has_unknown_name names) tx ≡ 0)
           → (Q → Below vars s.seen.reads) → IsGood w c r s.effect → IsGoodFlow w' c' r' (eval steps footprint reads tx s)
       good low (Seq' shape txs) w c r w' c' r' s v d e h k u b g =
           good_all low txs w c r w' c' r' s (omega arith) (omega arith) (omega arith) (λ q. omega (arith, h q)) (λ x. omega (arith, k x)) (λ x. omega (arith, u x)) b g
@@ -251,7 +251,7 @@ module _ (Q R U : Type 0) (vars : ℕ) (names : List (List ℕ)) where
       good low tx w c r w' c' r' s v d e h k u b g = (b, more (omega arith) (omega arith) (omega arith) g)
 
       pub good_all : (Q → (name : List ℕ) → AreBelow vars (footprint name)) → {m : _} (txs : Row_of-Tx m) (w c r w' c' r' : ℕ) (s : RunState) → w + count_all is_write txs ≤ w' → c + count_all is_check txs ≤ c' → r + count_all is_retire txs ≤ r'
-          → (Q → count_all (has_bad_variable vars) txs ≡ 0) → (R → count_all (lacks_shape names) txs ≡ 0) → (U → count_all (has_unknown_name names) txs ≡ 0)
+          → (Q → count_all (has_bad_variable vars) txs ≡ 0) → (R → count_all (lacks_signature names) txs ≡ 0) → (U → count_all (has_unknown_name names) txs ≡ 0)
           → (Q → Below vars s.seen.reads) → IsGood w c r s.effect → IsGoodFlow w' c' r' (eval_all steps footprint reads txs s)
       good_all low end_of-Tx w c r w' c' r' s v d e h k u b g = (b, more (omega arith) (omega arith) (omega arith) g)
       good_all low (more_of-Tx tx txs) w c r w' c' r' s v d e h k u b g =

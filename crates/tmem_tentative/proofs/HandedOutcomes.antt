@@ -3,7 +3,7 @@ use Rattle.std.proofs.Common.{◌≡◌, ℕ, ◌<◌, true, List, [], length, A
 use Rattle.std.specs.Map.{keys_of}
 use Rattle.tmem_invariants.specs.Meanings.{Meanings}
 use Rattle.tmem_effect.specs.Names.{has_name, AreApart}
-use Rattle.tmem_tree.specs.declared.shape.Shape.{Shape}
+use Rattle.tmem_tree.specs.declared.signature.Signature.{Signature}
 use Rattle.tmem_tree.specs.declared.tx.Tx.{Tx}
 use Rattle.tmem_tree.specs.StepAnswers.{StepMeanings}
 use Rattle.tmem_tentative.specs.declared.attempt.Attempt.{Attempt}
@@ -48,7 +48,7 @@ module _ (cursor : Cursor) (a : Attempt) (reads : a.reads.entries ≡ given curs
     ending = subst (IsEndingFor names) (sym ending) is.ending;
   }
 
-  pub handed_filled : (shapes : List Shape) (p : Progress) → IsFilled shapes (outcome_of cursor p) → IsFilled shapes (outcome_with a cursor p)
-  handed_filled shapes (Need var) is = is
-  handed_filled shapes Probe is = is
-  handed_filled shapes Ended is = tt
+  pub handed_filled : (signatures : List Signature) (p : Progress) → IsFilled signatures (outcome_of cursor p) → IsFilled signatures (outcome_with a cursor p)
+  handed_filled signatures (Need var) is = is
+  handed_filled signatures Probe is = is
+  handed_filled signatures Ended is = tt

@@ -20,4 +20,4 @@ mod PlaceSeq
 mod ReadEntries
 mod RightOutcomes
 mod RunVisits
-mod ShapeFootprints
+mod SignatureFootprints

@@ -10,10 +10,10 @@ use Rattle.tmem_tree.specs.declared.tx.Tx.{Tx}
 use Rattle.tmem_tree.specs.StepAnswers.{StepMeanings}
 use Rattle.tmem_effect.proofs.Laws.{AreApart-none}
 use Rattle.tmem_tree.specs.Limits.{count, is_write, is_check, is_retire}
-use Rattle.tmem_tree.specs.Plans.{PlanView, FitsVariables, FitsNames, HasShapes}
-use Rattle.tmem_tree.specs.Shapes.{names_of, footprint_in}
-use Rattle.tmem_tree.specs.declared.shape.Shape.{Shape}
-use Rattle.tmem_tree.proofs.Laws.{has_shapes}
+use Rattle.tmem_tree.specs.Plans.{PlanView, FitsVariables, FitsNames, HasSignatures}
+use Rattle.tmem_tree.specs.Signatures.{names_of, footprint_in}
+use Rattle.tmem_tree.specs.declared.signature.Signature.{Signature}
+use Rattle.tmem_tree.proofs.Laws.{has_signatures}
 use Rattle.tmem_tree.specs.Visited.{Visit}
 use Rattle.tmem_effect.specs.State.{no_effect}
 use Rattle.tmem_effect.specs.Writes.{value_in}
@@ -30,14 +30,14 @@ use Rattle.tmem_tentative.specs.declared.attempt.Outcome.TheVariants as outcome
 use Rattle.tmem_tentative.specs.declared.attempt.Ending.{Ending}
 use Rattle.tmem_tentative.specs.declared.attempt.Ending.TheVariants.{Normal, Retry, Abort, Broken}
 use Rattle.tmem_tentative.proofs.EvalFits.{IsGood, IsGoodFlow, good, Below, once_nil}
-use Rattle.tmem_tentative.proofs.ShapeFootprints.{within_of}
+use Rattle.tmem_tentative.proofs.SignatureFootprints.{within_of}
 
 -- what holds of each answer of an evaluation of this plan
 pub record FitsPlan (reads : List (ℕ × ℤ)) (plan : PlanView) (o : Outcome) : Type 0 where
   pub fits : count is_write plan.tree ≤ 64 → count is_check plan.tree ≤ 8 → count is_retire plan.tree ≤ 8 → IsFit reads o
   pub within : (vars : ℕ) → FitsVariables vars plan → IsWithinVariables vars o
   pub named : (names : List (List ℕ)) → FitsNames names plan.tree → IsNamed names o
-  pub filled : IsFilled plan.shapes o
+  pub filled : IsFilled plan.signatures o
 
 value_coded : Coded (Option ℤ)
 value_coded = hlevel codes
@@ -57,10 +57,10 @@ IsNamed-prop names (Need var) = hlevel props
 IsNamed-prop names (outcome.Probe probe) = Bool-set _ _
 IsNamed-prop names (Ended a) = hlevel (props, Bool-set, IsEndingFor-prop)
 
-IsFilled-prop : (shapes : List Shape) (o : Outcome) → IsProp (IsFilled shapes o)
-IsFilled-prop shapes (Need var) = hlevel props
-IsFilled-prop shapes (outcome.Probe probe) = hlevel (props, Bool-set)
-IsFilled-prop shapes (Ended a) = hlevel props
+IsFilled-prop : (signatures : List Signature) (o : Outcome) → IsProp (IsFilled signatures o)
+IsFilled-prop signatures (Need var) = hlevel props
+IsFilled-prop signatures (outcome.Probe probe) = hlevel (props, Bool-set)
+IsFilled-prop signatures (Ended a) = hlevel props
 
 FitsPlan-prop : (reads : List (ℕ × ℤ)) (plan : PlanView) (o : Outcome) → IsProp (FitsPlan reads plan o)
 FitsPlan-prop reads plan o = hlevel (props, IsFit-prop, IsWithin-prop, IsNamed-prop, IsFilled-prop)
@@ -87,37 +87,37 @@ module _ (m : StepMeanings) (reads : List (ℕ × ℤ)) (plan : PlanView) (answe
   module _ (vars : ℕ) (names : List (List ℕ)) where
     abbrev IsOfPlan : Effect → Type 0
     IsOfPlan =
-        IsGood (FitsVariables vars plan) (HasShapes names plan.tree) (FitsNames names plan.tree) vars names (count is_write plan.tree) (count is_check plan.tree) (count is_retire plan.tree)
+        IsGood (FitsVariables vars plan) (HasSignatures names plan.tree) (FitsNames names plan.tree) vars names (count is_write plan.tree) (count is_check plan.tree) (count is_retire plan.tree)
 
     abbrev IsFlowOfPlan : Flow → Type 0
     IsFlowOfPlan =
-        IsGoodFlow (FitsVariables vars plan) (HasShapes names plan.tree) (FitsNames names plan.tree) vars names m (footprint_in plan.shapes) reads (count is_write plan.tree) (count is_check plan.tree) (count is_retire plan.tree)
+        IsGoodFlow (FitsVariables vars plan) (HasSignatures names plan.tree) (FitsNames names plan.tree) vars names m (footprint_in plan.signatures) reads (count is_write plan.tree) (count is_check plan.tree) (count is_retire plan.tree)
 
-    flow_of_plan : (f : Flow) → eval m (footprint_in plan.shapes) reads plan.tree (start_state answers) ≡ f → IsFlowOfPlan f
+    flow_of_plan : (f : Flow) → eval m (footprint_in plan.signatures) reads plan.tree (start_state answers) ≡ f → IsFlowOfPlan f
     flow_of_plan f e =
         subst IsFlowOfPlan e
-        (good _ _ _ vars names m (footprint_in plan.shapes) reads (λ q name. within_of vars plan.shapes q.footprints name) plan.tree 0 0 0 _ _ _ (start_state answers) (omega arith) (omega arith) (omega arith) (λ q. q.named) (λ x. x) (λ x. x) (λ q k d h. absurd (omega arith)) (nothing _ _ _ vars names 0 0 0))
+        (good _ _ _ vars names m (footprint_in plan.signatures) reads (λ q name. within_of vars plan.signatures q.footprints name) plan.tree 0 0 0 _ _ _ (start_state answers) (omega arith) (omega arith) (omega arith) (λ q. q.named) (λ x. x) (λ x. x) (λ q k d h. absurd (omega arith)) (nothing _ _ _ vars names 0 0 0))
 
-    end_of_plan : (end : Ending) (a : Attempt) → IsBlankUnlessNormal end a → IsFlowOfPlan (ended_as end (run_state_of a left)) → (FitsVariables vars plan → Below vars a.reads.entries) × IsOfPlan a.effect × (HasShapes names plan.tree → IsEndingFor names end)
+    end_of_plan : (end : Ending) (a : Attempt) → IsBlankUnlessNormal end a → IsFlowOfPlan (ended_as end (run_state_of a left)) → (FitsVariables vars plan → Below vars a.reads.entries) × IsOfPlan a.effect × (HasSignatures names plan.tree → IsEndingFor names end)
     end_of_plan Normal a blank g = (g.0, g.1, λ r. tt)
     end_of_plan Retry a blank g = (g, subst IsOfPlan (sym blank.effect) (nothing _ _ _ vars names _ _ _), λ r. tt)
     end_of_plan (Abort code) a blank g = (g.0, subst IsOfPlan (sym blank.effect) (nothing _ _ _ vars names _ _ _), λ r. tt)
     end_of_plan (Broken name) a blank g = (g.0, subst IsOfPlan (sym blank.effect) (nothing _ _ _ vars names _ _ _), g.1)
 
-  made_fits : (o : Outcome) → HasShapes (names_of plan.shapes) plan.tree → IsMadeOf (eval m (footprint_in plan.shapes) reads plan.tree (start_state answers)) left o → FitsPlan reads plan o
-  made_fits (Need var) shaped e = record {
+  made_fits : (o : Outcome) → HasSignatures (names_of plan.signatures) plan.tree → IsMadeOf (eval m (footprint_in plan.signatures) reads plan.tree (start_state answers)) left o → FitsPlan reads plan o
+  made_fits (Need var) covered e = record {
     fits = λ few few_names few_retired. (flow_of_plan 0 [] _ e).1;
     within = λ vars fits. (flow_of_plan vars [] _ e).0 fits;
     named = λ names fits. tt;
     filled = tt;
   }
-  made_fits (outcome.Probe probe) shaped e = record {
+  made_fits (outcome.Probe probe) covered e = record {
     fits = λ few few_names few_retired. tt;
     within = λ vars fits. tt;
-    named = λ names fits. (flow_of_plan 0 names _ e).0 (has_shapes names plan.tree fits);
-    filled = let asks = flow_of_plan 0 (names_of plan.shapes) _ e in (asks.0 shaped, asks.1);
+    named = λ names fits. (flow_of_plan 0 names _ e).0 (has_signatures names plan.tree fits);
+    filled = let asks = flow_of_plan 0 (names_of plan.signatures) _ e in (asks.0 covered, asks.1);
   }
-  made_fits (Ended a) shaped (e, blank) = record {
+  made_fits (Ended a) covered (e, blank) = record {
     fits = λ few few_names few_retired.
         let g = (made 0 []).1 in (
           record {
@@ -134,18 +134,18 @@ module _ (m : StepMeanings) (reads : List (ℕ × ℤ)) (plan : PlanView) (answe
         (g.0 fits, g.1.within fits);
     named = λ names fits.
         let g = made 0 names in
-        let shapes = has_shapes names plan.tree fits in
-        record { proposed = g.1.known shapes; retired = g.1.known_too fits; apart = g.1.apart; ending = g.2 shapes };
+        let signatures = has_signatures names plan.tree fits in
+        record { proposed = g.1.known signatures; retired = g.1.known_too fits; apart = g.1.apart; ending = g.2 signatures };
     filled = tt;
   } where
-    made : (vars : ℕ) (names : List (List ℕ)) → (FitsVariables vars plan → Below vars a.reads.entries) × IsOfPlan vars names a.effect × (HasShapes names plan.tree → IsEndingFor names a.ending)
+    made : (vars : ℕ) (names : List (List ℕ)) → (FitsVariables vars plan → Below vars a.reads.entries) × IsOfPlan vars names a.effect × (HasSignatures names plan.tree → IsEndingFor names a.ending)
     made vars names = end_of_plan vars names a.ending a blank (flow_of_plan vars names _ e)
 
 -- what an evaluation comes to fits its plan, whatever the steps mean, since they mean something
-pub made_fits_plan : {IsStated : StepMeanings → Type 0} → ∥ ((m : StepMeanings) × IsStated m) ∥₁ → {plan : PlanView} → HasShapes (names_of plan.shapes) plan.tree → (reads : List (ℕ × ℤ)) (answers left : List Bool) (o : Outcome)
-    → ((m : StepMeanings) → IsStated m → IsMadeOf (eval m (footprint_in plan.shapes) reads plan.tree (start_state answers)) left o) → FitsPlan reads plan o
-made_fits_plan some {plan} shaped reads answers left o made =
-    ∥∥₁_elim some (FitsPlan-prop reads plan o) (λ p. made_fits p.0 reads plan answers left o shaped (made p.0 p.1))
+pub made_fits_plan : {IsStated : StepMeanings → Type 0} → ∥ ((m : StepMeanings) × IsStated m) ∥₁ → {plan : PlanView} → HasSignatures (names_of plan.signatures) plan.tree → (reads : List (ℕ × ℤ)) (answers left : List Bool) (o : Outcome)
+    → ((m : StepMeanings) → IsStated m → IsMadeOf (eval m (footprint_in plan.signatures) reads plan.tree (start_state answers)) left o) → FitsPlan reads plan o
+made_fits_plan some {plan} covered reads answers left o made =
+    ∥∥₁_elim some (FitsPlan-prop reads plan o) (λ p. made_fits p.0 reads plan answers left o covered (made p.0 p.1))
 
 -- an attempt of a run that has ended
 pub end_made : (f : Flow) (left : List Bool) (old new : Attempt) (end : Ending) → f ≡ ended_as end (run_state_of old left) → IsEndOf old end new → IsMadeOf f left (Ended new)

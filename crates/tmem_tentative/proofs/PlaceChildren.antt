@@ -3,10 +3,10 @@ use Rattle.std.proofs.Common.{◌≡◌, ℕ, ℤ, ◌+◌, ◌<◌, ◌≤◌, 
 use Rattle.std.specs.declared.alloc.Global.{Global}
 use Rattle.std.specs.declared.boxed.Box.{Box}
 use Rattle.tmem_effect.specs.declared.effect.Effect.{Effect}
-use Rattle.tmem_tree.specs.declared.shape.Shape.{Shape}
+use Rattle.tmem_tree.specs.declared.signature.Signature.{Signature}
 use Rattle.tmem_tree.specs.declared.tx.Tx.{Tx}
 use Rattle.tmem_tree.specs.declared.tx.Tx.TheVariants.{OrElse, When', OrElse'}
-use Rattle.tmem_tree.specs.Limits.{depth, choices, count, is_write, is_check, is_retire, has_bad_register, has_bad_step, has_bad_arguments, lacks_shape}
+use Rattle.tmem_tree.specs.Limits.{depth, choices, count, is_write, is_check, is_retire, has_bad_register, has_bad_step, has_bad_arguments, lacks_signature}
 use Rattle.tmem_tree.specs.Run.{register, is_zero}
 use Rattle.tmem_tree.specs.StepAnswers.{StepMeanings}
 use Rattle.tmem_tree.specs.Visited.{Ask}
@@ -19,14 +19,14 @@ use Rattle.tmem_tentative.proofs.PlaceRoom.{path_grows, choice_saved, when_then_
 use Rattle.tmem_tentative.proofs.PlaceSaves.{EntersFirst, enters_first, inside, joined}
 use Rattle.tmem_tentative.proofs.PlaceRuns.{with_left, in_child, child_leads, first_leads, retried_start, when_then, when_other, choice_first, choice_second}
 
-module _ (IsStated : StepMeanings → Type 0) (shapes : List Shape) (seen : Taken) where
+module _ (IsStated : StepMeanings → Type 0) (signatures : List Signature) (seen : Taken) where
   -- the tree goes on from its place as the child does from its own, with these answers left, and is at its end where the child is
   pub record IsChild (tx sub : Tx) (child : ℕ) (before inside : Place) (kept : List Bool) : Type 0 where
     pub counts : (test : Tx → Bool) → count test sub ≤ count test tx
     pub deep : depth sub < depth tx
     pub enough : choices tx ≤ length before.saves → choices sub ≤ length inside.saves
     pub room : (test : Tx → Bool) (limit : ℕ) (size : Effect → ℕ) (rest : ℕ) → HasRoom test limit size rest before.path tx before.saves (size before.effect) → HasRoom test limit size rest inside.path sub inside.saves (size inside.effect)
-    pub goes : (m : StepMeanings) (footprint : List ℕ → List ℕ) → IsStated m → AreOf shapes footprint → (reads : List (ℕ × ℤ)) (more : List Bool) → Covers reads seen.reads
+    pub goes : (m : StepMeanings) (footprint : List ℕ → List ℕ) → IsStated m → AreOf signatures footprint → (reads : List (ℕ × ℤ)) (more : List Bool) → Covers reads seen.reads
         → eval_from m footprint reads tx before (with_more seen more) ≡ eval_from m footprint reads sub inside (with_more (with_left seen kept) more)
     pub room_on : (test : Tx → Bool) (limit : ℕ) (size : Effect → ℕ) (rest : ℕ) (path : List ℕ) (saves : List Save) (n : ℕ) → HasRoom test limit size rest path sub saves n → HasRoom test limit size rest (child ∷ path) tx saves n
     pub goes_on : (m : StepMeanings) (footprint : List ℕ → List ℕ) (reads : List (ℕ × ℤ)) (path : List ℕ) (saves : List Save) (s : RunState) → eval_on m footprint reads (child ∷ path) tx saves s ≡ eval_on m footprint reads path sub saves s
@@ -35,7 +35,7 @@ module _ (IsStated : StepMeanings → Type 0) (shapes : List Shape) (seen : Take
   child_may {arities = arities} {invariants = invariants} is may = record {
     registers = omega (arith, is.counts has_bad_register, may.registers);
     steps = record { there = omega (arith, is.counts (has_bad_step arities), may.steps.there); given = omega (arith, is.counts (has_bad_arguments arities), may.steps.given) };
-    known = omega (arith, is.counts (lacks_shape invariants), may.known);
+    known = omega (arith, is.counts (lacks_signature invariants), may.known);
     deep = omega (arith, is.deep, may.deep);
     enough = is.enough may.enough;
     writes = (may.writes.0, is.room is_write 64 (λ e. length e.writes) may.writes.0 may.writes.1);
@@ -43,8 +43,8 @@ module _ (IsStated : StepMeanings → Type 0) (shapes : List Shape) (seen : Take
     retires = (may.retires.0, is.room is_retire 8 (λ e. length e.retired) may.retires.0 may.retires.1);
   }
 
-  pub child_runs : {tx sub : Tx} {child : ℕ} {before inside after : Place} {kept left : List Bool} {out : Out} → IsChild tx sub child before inside kept → RunsTo IsStated shapes (with_left seen kept) sub inside out after left
-      → RunsTo IsStated shapes seen tx before out (in_child out child after) left
+  pub child_runs : {tx sub : Tx} {child : ℕ} {before inside after : Place} {kept left : List Bool} {out : Out} → IsChild tx sub child before inside kept → RunsTo IsStated signatures (with_left seen kept) sub inside out after left
+      → RunsTo IsStated signatures seen tx before out (in_child out child after) left
   child_runs {tx} {sub} {child} {before} {inside} {after} {kept} {left} {out} is r = record {
     path = path_grows out _ _ child after.path r.path is.deep;
     writes = λ rest h. child_leaves is_write 64 (λ e. length e.writes) rest child tx sub out after.path after.saves after.effect (λ path n. is.room_on is_write 64 (λ e. length e.writes) rest path after.saves n) (r.writes rest (is.room is_write 64 (λ e. length e.writes) rest h));
@@ -118,10 +118,10 @@ module _ (IsStated : StepMeanings → Type 0) (shapes : List Shape) (seen : Take
     }
 
     -- and that has not retried
-    pub first_runs : {a b : Tx} {p q : _} {out : Out} {after : Place} {kept : List Bool} → (out ≡ Gave_way → ⊥) → RunsTo IsStated shapes seen a (record before { path = left; saves = inside saves }) out after kept
-        → RunsTo IsStated shapes seen (OrElse' p a q b) before out (in_child out 0 (record after { saves = joined saves after.saves })) kept
+    pub first_runs : {a b : Tx} {p q : _} {out : Out} {after : Place} {kept : List Bool} → (out ≡ Gave_way → ⊥) → RunsTo IsStated signatures seen a (record before { path = left; saves = inside saves }) out after kept
+        → RunsTo IsStated signatures seen (OrElse' p a q b) before out (in_child out 0 (record after { saves = joined saves after.saves })) kept
     first_runs {a} {b} {p} {q} {out} {after} {kept} some r =
-        subst (λ l. RunsTo IsStated shapes seen (OrElse' p a q b) before out (in_child out 0 (record after { saves = l })) kept) (sym (e.all after.saves)) (record {
+        subst (λ l. RunsTo IsStated signatures seen (OrElse' p a q b) before out (in_child out 0 (record after { saves = l })) kept) (sym (e.all after.saves)) (record {
           path = path_grows out _ _ 0 after.path r.path (omega arith);
           writes = λ rest h.
               let k = room_of is_write 64 (λ e. length e.writes) rest a b p q h in
@@ -136,7 +136,7 @@ module _ (IsStated : StepMeanings → Type 0) (shapes : List Shape) (seen : Take
         })
 
     -- and that has
-    pub retried_child : {a b : Tx} {p q : _} {after : Place} {kept : List Bool} (d : Save) → length after.saves ≡ length (inside saves) → RunsTo IsStated shapes seen a (record before { path = left; saves = inside saves }) Gave_way after kept
+    pub retried_child : {a b : Tx} {p q : _} {after : Place} {kept : List Bool} (d : Save) → length after.saves ≡ length (inside saves) → RunsTo IsStated signatures seen a (record before { path = left; saves = inside saves }) Gave_way after kept
         → IsChild (OrElse' p a q b) b 1 before (record { path = after.path; saves = joined saves after.saves; registers = (get_or (joined saves after.saves) 0 d).registers; effect = (get_or (joined saves after.saves) 0 d).effect }) kept
     retried_child {a} {b} {p} {q} {after} {kept} d same r =
         subst (λ l. IsChild (OrElse' p a q b) b 1 before (record { path = l; saves = joined saves after.saves; registers = (get_or (joined saves after.saves) 0 d).registers; effect = (get_or (joined saves after.saves) 0 d).effect }) kept) (sym r.path)
@@ -167,14 +167,14 @@ leaf_may {tx = tx} before {path} {saves} may leaf = record {
 }
 
 -- whose effect had room
-pub leaf_runs : {IsStated : StepMeanings → Type 0} {arities : List ℕ} {invariants : List (List ℕ)} {shapes : List Shape} {tx : Tx} (before after : Attempt) {path after_path : List ℕ} {saves : List Save} {seen : Taken} {out : Out} {left : List Bool}
+pub leaf_runs : {IsStated : StepMeanings → Type 0} {arities : List ℕ} {invariants : List (List ℕ)} {signatures : List Signature} {tx : Tx} (before after : Attempt) {path after_path : List ℕ} {saves : List Save} {seen : Taken} {out : Out} {left : List Bool}
     → MayRunFrom arities invariants tx (place_of before path saves) → IsLeaf tx → after_path ≡ path
     → length after.effect.writes ≤ length before.effect.writes + count is_write tx → length after.effect.names ≤ length before.effect.names + count is_check tx → length after.effect.retired ≤ length before.effect.retired + count is_retire tx → ((ask : Ask) → out ≡ Stopped ask → after.effect ≡ before.effect)
-    → ((m : StepMeanings) (footprint : List ℕ → List ℕ) → IsStated m → AreOf shapes footprint → (saves : List Save) → LeadsTo m footprint seen tx (place_of before [] saves) out (place_of after [] saves) left)
-    → RunsTo IsStated shapes seen tx (place_of before path saves) out (place_of after after_path saves) left
-leaf_runs {IsStated} {shapes = shapes} {tx = tx} before after {path = path} {saves = saves} {seen = seen} {out = out} {left = left} may leaf stood writes names retires stays leads =
+    → ((m : StepMeanings) (footprint : List ℕ → List ℕ) → IsStated m → AreOf signatures footprint → (saves : List Save) → LeadsTo m footprint seen tx (place_of before [] saves) out (place_of after [] saves) left)
+    → RunsTo IsStated signatures seen tx (place_of before path saves) out (place_of after after_path saves) left
+leaf_runs {IsStated} {signatures = signatures} {tx = tx} before after {path = path} {saves = saves} {seen = seen} {out = out} {left = left} may leaf stood writes names retires stays leads =
     let none : path ≡ [] = leaf_start is_write 64 (λ e. length e.writes) may.writes.0 path tx saves (length before.effect.writes) leaf may.writes.1 in
-    subst (λ l. RunsTo IsStated shapes seen tx (place_of before path saves) out (place_of after l saves) left) (sym stood) (record {
+    subst (λ l. RunsTo IsStated signatures seen tx (place_of before path saves) out (place_of after l saves) left) (sym stood) (record {
       path = leaf_path out (depth tx) path none (leaf_depth tx leaf);
       writes = λ rest h. leaf_leaves is_write 64 (λ e. length e.writes) rest out tx path saves before.effect after.effect none writes stays h;
       names = λ rest h. leaf_leaves is_check 8 (λ e. length e.names) rest out tx path saves before.effect after.effect none names stays h;

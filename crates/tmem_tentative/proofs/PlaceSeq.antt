@@ -3,13 +3,13 @@ use Rattle.std.proofs.Common.{◌≡◌, ℕ, zero, suc, ℤ, pos, ◌+◌, ◌<
 use mathlib.Core.Path.{fun_ext}
 use Rattle.std.specs.declared.vec.Vec.{Vec}
 use Rattle.std.specs.declared.alloc.Global.{Global}
-use Rattle.tmem_tree.specs.declared.shape.Shape.{Shape}
+use Rattle.tmem_tree.specs.declared.signature.Signature.{Signature}
 use Rattle.tmem_tree.specs.declared.tx.Tx.{Tx, Row_of-Tx, end_of-Tx, more_of-Tx}
 use Rattle.tmem_tree.specs.declared.tx.Tx.TheVariants.{Seq}
 use Rattle.tmem_tree.specs.declared.tx.Tx.TheBlock.{items-the_row-Tx}
 use Rattle.tmem_tree.specs.declared.tx.Tx.TheViews.{the_lemmas}
 use Rattle.tmem_tree.proofs.Laws.{count_items, depth_items, choices_in, count-Seq, depth-Seq, choices-Seq}
-use Rattle.tmem_tree.specs.Limits.{depth, count, is_write, is_check, is_retire, has_bad_register, has_bad_step, has_bad_arguments, lacks_shape}
+use Rattle.tmem_tree.specs.Limits.{depth, count, is_write, is_check, is_retire, has_bad_register, has_bad_step, has_bad_arguments, lacks_signature}
 use Rattle.tmem_tree.specs.StepAnswers.{StepMeanings}
 use Rattle.tmem_tentative.specs.declared.save.Save.{Save}
 use Rattle.tmem_tentative.specs.Eval.{RunState, Taken, Flow, Goes, then_eval}
@@ -92,7 +92,7 @@ seq_goes m footprint seen left reads more tx others before after l covers =
     ap (λ f. then_eval f (eval_in m footprint reads others)) (l.goes_on reads (pos 0) more covers covers)
     ∙ eval_in_on-start m footprint reads others after.saves (record { registers = after.registers; effect = after.effect; seen = with_more (with_left seen left) more })
 
-module _ (IsStated : StepMeanings → Type 0) (shapes : List Shape) (seen : Taken) where
+module _ (IsStated : StepMeanings → Type 0) (signatures : List Signature) (seen : Taken) where
   -- what is left of a tree, the first from a place inside it, and of the answers: the tree goes on there
   pub record IsLeft (tree : Tx) (before : Place) (txs : List Tx) (here : Place) (kept : List Bool) : Type 0 where
     pub counts : (test : Tx → Bool) → count_items test txs ≤ count test tree
@@ -101,7 +101,7 @@ module _ (IsStated : StepMeanings → Type 0) (shapes : List Shape) (seen : Take
     pub writes : (rest : ℕ) → WritesFit rest before.path tree before.saves before.effect → RoomIn is_write 64 (λ e. length e.writes) rest txs here.path here.saves (length here.effect.writes)
     pub names : (rest : ℕ) → NamesFit rest before.path tree before.saves before.effect → RoomIn is_check 8 (λ e. length e.names) rest txs here.path here.saves (length here.effect.names)
     pub retires : (rest : ℕ) → RetiresFit rest before.path tree before.saves before.effect → RoomIn is_retire 8 (λ e. length e.retired) rest txs here.path here.saves (length here.effect.retired)
-    pub leads : (m : StepMeanings) (footprint : List ℕ → List ℕ) → IsStated m → AreOf shapes footprint → (reads : List (ℕ × ℤ)) (more : List Bool) → Covers reads seen.reads
+    pub leads : (m : StepMeanings) (footprint : List ℕ → List ℕ) → IsStated m → AreOf signatures footprint → (reads : List (ℕ × ℤ)) (more : List Bool) → Covers reads seen.reads
         → eval_from m footprint reads tree before (with_more seen more) ≡ eval_in_on m footprint reads txs here.path here.saves (record { registers = here.registers; effect = here.effect; seen = with_more (with_left seen kept) more })
 
   -- a Seq that is entered
@@ -122,7 +122,7 @@ module _ (IsStated : StepMeanings → Type 0) (shapes : List Shape) (seen : Take
     first_may {tx} {txs} is = record {
       registers = omega (arith, may.registers, is.counts has_bad_register);
       steps = record { there = omega (arith, may.steps.there, is.counts (has_bad_step arities)); given = omega (arith, may.steps.given, is.counts (has_bad_arguments arities)) };
-      known = omega (arith, may.known, is.counts (lacks_shape invariants));
+      known = omega (arith, may.known, is.counts (lacks_signature invariants));
       deep = omega (arith, may.deep, is.deep);
       enough = omega (arith, is.enough);
       writes = (count_items is_write txs + may.writes.0, is.writes may.writes.0 may.writes.1);
@@ -131,7 +131,7 @@ module _ (IsStated : StepMeanings → Type 0) (shapes : List Shape) (seen : Take
     }
 
     -- none is left
-    pub all_run : {here : Place} {kept : List Bool} → IsLeft tree before [] here kept → RunsTo IsStated shapes seen tree before Went here kept
+    pub all_run : {here : Place} {kept : List Bool} → IsLeft tree before [] here kept → RunsTo IsStated signatures seen tree before Went here kept
     all_run is = record {
       path = (is.writes may.writes.0 may.writes.1).0;
       writes = λ rest h. (is.writes rest h).1;
@@ -141,7 +141,7 @@ module _ (IsStated : StepMeanings → Type 0) (shapes : List Shape) (seen : Take
     }
 
   -- behind its first tree that has ended normally
-  pub next_left : {tree tx : Tx} {txs : List Tx} {before here after : Place} {kept left : List Bool} → length after.saves ≡ length here.saves → IsLeft tree before (tx ∷ txs) here kept → RunsTo IsStated shapes (with_left seen kept) tx here Went after left → IsLeft tree before txs after left
+  pub next_left : {tree tx : Tx} {txs : List Tx} {before here after : Place} {kept left : List Bool} → length after.saves ≡ length here.saves → IsLeft tree before (tx ∷ txs) here kept → RunsTo IsStated signatures (with_left seen kept) tx here Went after left → IsLeft tree before txs after left
   next_left {tx = tx} {txs = txs} {here = here} {after = after} {kept = kept} {left = left} same is r = record {
     counts = λ test. omega (arith, is.counts test);
     deep = omega (arith, is.deep);
@@ -156,7 +156,7 @@ module _ (IsStated : StepMeanings → Type 0) (shapes : List Shape) (seen : Take
 
   -- behind one that has not
   pub part_runs : {tx : Tx} {others : List Tx} {before here after : Place} {kept left : List Bool} {out : Out} (txs : Vec Tx Global) (k : ℕ) → drop k txs.items ≡ tx ∷ others → (out ≡ Went → ⊥)
-      → IsLeft (Seq txs) before (tx ∷ others) here kept → RunsTo IsStated shapes (with_left seen kept) tx here out after left → RunsTo IsStated shapes seen (Seq txs) before out (in_child out k after) left
+      → IsLeft (Seq txs) before (tx ∷ others) here kept → RunsTo IsStated signatures (with_left seen kept) tx here out after left → RunsTo IsStated signatures seen (Seq txs) before out (in_child out k after) left
   part_runs {tx} {others} {before} {here} {after} {kept} {left} {out} txs k key some is r = record {
     path = path_grows out _ _ k after.path r.path (omega (arith, is.deep));
     writes = λ rest h. seq_leaves is_write 64 (λ e. length e.writes) rest k txs tx others out after.path after.saves after.effect key some (r.writes _ (is.writes rest h));

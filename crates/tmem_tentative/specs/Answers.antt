@@ -6,4 +6,4 @@ use Rattle.tmem_tentative.specs.declared.answers.Answers.TheVariants.{Start, Aft
 -- the first one first
 abbrev pub answers_of : Answers → List Bool
 answers_of Start = []
-answers_of (After' held shape earlier) = answers_of earlier ++ held.value ∷ []
+answers_of (After' held signature earlier) = answers_of earlier ++ held.value ∷ []

@@ -9,7 +9,7 @@ use Rattle.tmem_tree.specs.declared.tx.Tx.{Tx, Row_of-Tx, end_of-Tx, more_of-Tx}
 use Rattle.tmem_tree.specs.declared.tx.Tx.TheVariants.{Seq', When', OrElse'}
 use Rattle.tmem_tree.specs.Limits.{is_write, is_check, is_retire}
 use Rattle.tmem_tree.specs.Plans.{PlanView}
-use Rattle.tmem_tree.specs.Shapes.{footprint_in}
+use Rattle.tmem_tree.specs.Signatures.{footprint_in}
 use Rattle.tmem_tree.specs.StepAnswers.{StepMeanings}
 use Rattle.tmem_tree.specs.Visited.{Ask, Visit, Probe}
 use Rattle.tmem_tentative.specs.declared.attempt.Attempt.{Attempt}
@@ -86,7 +86,7 @@ Gave-prop tests (answer ∷ answers) (Probe name values ∷ more) =
 
 -- so a type may state them as facts
 pub StandsIn-prop : (m : StepMeanings) (plan : PlanView) (cursor : Cursor) → IsProp (StandsIn m plan cursor)
-StandsIn-prop m plan cursor = IsAtStage-prop m (footprint_in plan.shapes) plan.tree cursor.stage cursor
+StandsIn-prop m plan cursor = IsAtStage-prop m (footprint_in plan.signatures) plan.tree cursor.stage cursor
 
 pub IsAt-prop : (m : StepMeanings) (tests : Meanings) (plan : Tx) (cursor : Cursor) → IsProp (IsAt m tests plan cursor)
 IsAt-prop m tests plan cursor = hlevel (IsAtStage-prop, Gave-prop)

@@ -5,7 +5,7 @@ use Rattle.tmem_invariants.specs.Meanings.{Meanings}
 use Rattle.tmem_tree.specs.declared.tx.Tx.{Tx}
 use Rattle.tmem_tree.specs.Limits.{choices}
 use Rattle.tmem_tree.specs.Plans.{PlanView}
-use Rattle.tmem_tree.specs.Shapes.{footprint_in}
+use Rattle.tmem_tree.specs.Signatures.{footprint_in}
 use Rattle.tmem_tree.specs.StepAnswers.{StepMeanings}
 use Rattle.tmem_tree.specs.Visited.{Ask, Visit, Probe}
 use Rattle.tmem_tentative.specs.declared.attempt.Attempt.{Attempt}
@@ -87,7 +87,7 @@ IsAtStage m footprint plan Ended cursor =
 
 -- the cursor stands in the evaluation of this plan, with the footprints that the plan has, on what it was given and answered
 abbrev pub StandsIn : StepMeanings → PlanView → Cursor → Type 0
-StandsIn m plan cursor = IsAtStage m (footprint_in plan.shapes) plan.tree cursor.stage cursor
+StandsIn m plan cursor = IsAtStage m (footprint_in plan.signatures) plan.tree cursor.stage cursor
 
 -- it stands in the evaluation of this transaction on what it was given and answered, and these tests gave the answers
 pub record IsAt (m : StepMeanings) (tests : Meanings) (plan : Tx) (cursor : Cursor) : Type 0 where

@@ -5,8 +5,8 @@ use Rattle.std.specs.Map.{keys_of}
 use Rattle.tmem_effect.specs.Names.{has_name, AreApart}
 use Rattle.tmem_effect.specs.Writes.{value_in}
 use Rattle.tmem_effect.specs.declared.effect.Effect.{Effect}
-use Rattle.tmem_tree.specs.declared.shape.Shape.{Shape}
-use Rattle.tmem_tree.specs.Shapes.{names_of, footprint_in}
+use Rattle.tmem_tree.specs.declared.signature.Signature.{Signature}
+use Rattle.tmem_tree.specs.Signatures.{names_of, footprint_in}
 use Rattle.tmem_tentative.specs.declared.attempt.Outcome.{Outcome}
 use Rattle.tmem_tentative.specs.declared.attempt.Outcome.TheVariants.{Need, Ended}
 use Rattle.tmem_tentative.specs.declared.attempt.Outcome.TheVariants as outcome
@@ -64,8 +64,8 @@ IsNamed names (Need var) = ⊤
 IsNamed names (outcome.Probe probe) = has_name names probe.name ≡ true
 IsNamed names (Ended a) = IsForNames names a
 
--- a test is of a name that has a shape, and is given as many values as that has variables
-abbrev pub IsFilled : List Shape → Outcome → Type 0
-IsFilled shapes (outcome.Probe probe) =
-    (has_name (names_of shapes) probe.name ≡ true) × (length probe.values ≡ length (footprint_in shapes probe.name))
-IsFilled shapes _ = ⊤
+-- a test is of a name that has a signature, and is given as many values as that has variables
+abbrev pub IsFilled : List Signature → Outcome → Type 0
+IsFilled signatures (outcome.Probe probe) =
+    (has_name (names_of signatures) probe.name ≡ true) × (length probe.values ≡ length (footprint_in signatures probe.name))
+IsFilled signatures _ = ⊤

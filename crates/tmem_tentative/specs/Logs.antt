@@ -4,10 +4,10 @@ use Rattle.tmem_effect.specs.Names.{has_name}
 use Rattle.tmem_effect.specs.declared.effect.Effect.{Effect}
 use Rattle.tmem_tree.specs.declared.tx.Tx.{Tx}
 use Rattle.tmem_tree.specs.Limits.{count, is_write, is_check, is_retire, has_bad_register}
-use Rattle.tmem_tree.specs.Plans.{FitsSteps, HasShapes}
-use Rattle.tmem_tree.specs.Shapes.{names_of, footprint_in}
+use Rattle.tmem_tree.specs.Plans.{FitsSteps, HasSignatures}
+use Rattle.tmem_tree.specs.Signatures.{names_of, footprint_in}
 use Rattle.tmem_tree.specs.Visited.{Ask, Visit, Probe}
-use Rattle.tmem_tree.specs.declared.shape.Shape.{Shape}
+use Rattle.tmem_tree.specs.declared.signature.Signature.{Signature}
 use Rattle.tmem_tentative.specs.declared.attempt.Attempt.{Attempt}
 use Rattle.tmem_tentative.specs.declared.attempt.Ending.{Ending}
 use Rattle.tmem_tentative.specs.declared.attempt.Ending.TheVariants as ending
@@ -63,16 +63,16 @@ abbrev pub footprint_seen_as : Option ℕ → List ℤ → RunState → Footprin
 footprint_seen_as (Some var) values s = Lacks var
 footprint_seen_as None values s = Found values s
 
--- these are the footprints of the shapes, for each name that those have
-abbrev pub AreOf : List Shape → (List ℕ → List ℕ) → Type 0
-AreOf shapes footprint = (name : List ℕ) → has_name (names_of shapes) name ≡ true → footprint name ≡ footprint_in shapes name
+-- these are the footprints of the signatures, for each name that those have
+abbrev pub AreOf : List Signature → (List ℕ → List ℕ) → Type 0
+AreOf signatures footprint = (name : List ℕ) → has_name (names_of signatures) name ≡ true → footprint name ≡ footprint_in signatures name
 
--- a run of this tree may go on, for steps that take so many arguments and for shapes of these names, where the effect has room for
+-- a run of this tree may go on, for steps that take so many arguments and for signatures of these names, where the effect has room for
 -- what it writes, checks and retires
 pub record MayWalk (arities : List ℕ) (names : List (List ℕ)) (tx : Tx) (effect : Effect) : Type 0 where
   pub registers : count has_bad_register tx ≡ 0
   pub steps : FitsSteps arities tx
-  pub known : HasShapes names tx
+  pub known : HasSignatures names tx
   pub writes : length effect.writes + count is_write tx ≤ 64
   pub checks : length effect.names + count is_check tx ≤ 8
   pub retires : length effect.retired + count is_retire tx ≤ 8

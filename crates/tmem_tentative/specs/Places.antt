@@ -7,9 +7,9 @@ use Rattle.tmem_tree.specs.StepAnswers.{StepMeanings}
 use Rattle.tmem_effect.specs.Writes.{value_in}
 use Rattle.tmem_effect.specs.declared.effect.Effect.{Effect}
 use Rattle.tmem_tree.specs.Limits.{depth, choices, count, count_all, is_write, is_check, is_retire, has_bad_register}
-use Rattle.tmem_tree.specs.Plans.{FitsSteps, HasShapes}
+use Rattle.tmem_tree.specs.Plans.{FitsSteps, HasSignatures}
 use Rattle.tmem_tree.specs.Visited.{Ask, Visit, Probe}
-use Rattle.tmem_tree.specs.declared.shape.Shape.{Shape}
+use Rattle.tmem_tree.specs.declared.signature.Signature.{Signature}
 use Rattle.tmem_tentative.specs.declared.attempt.Attempt.{Attempt}
 use Rattle.tmem_tentative.specs.declared.course.Course.{Course}
 use Rattle.tmem_tentative.specs.declared.flow.Flow as code
@@ -137,12 +137,12 @@ LeavesRoom test limit size rest Went path tx saves effect = size effect + rest �
 LeavesRoom test limit size rest (Stopped ask) path tx saves effect = HasRoom test limit size rest path tx saves (size effect)
 LeavesRoom test limit size rest _ path tx saves effect = ⊤
 
--- A run of this tree may go on from here, for steps that take so many arguments and shapes of these names: it is no deeper than a
+-- A run of this tree may go on from here, for steps that take so many arguments and signatures of these names: it is no deeper than a
 -- plan, there is a save for each of its choices, and with so many behind it there is room for what it writes, checks and retires.
 pub record MayRunFrom (arities : List ℕ) (invariants : List (List ℕ)) (tx : Tx) (p : Place) : Type 0 where
   pub registers : count has_bad_register tx ≡ 0
   pub steps : FitsSteps arities tx
-  pub known : HasShapes invariants tx
+  pub known : HasSignatures invariants tx
   pub deep : depth tx ≤ 32
   pub enough : choices tx ≤ length p.saves
   pub writes : (rest : ℕ) × WritesFit rest p.path tx p.saves p.effect
@@ -150,13 +150,13 @@ pub record MayRunFrom (arities : List ℕ) (invariants : List (List ℕ)) (tx : 
   pub retires : (rest : ℕ) × RetiresFit rest p.path tx p.saves p.effect
 
 -- a run from one place to another, where so much was taken: the path and the room behind it, and what it leads to under each
--- meaning that is stated of the steps, with the footprints of these shapes
-pub record RunsTo (IsStated : StepMeanings → Type 0) (shapes : List Shape) (seen : Taken) (tx : Tx) (before : Place) (out : Out) (after : Place) (left : List Bool) : Type 0 where
+-- meaning that is stated of the steps, with the footprints of these signatures
+pub record RunsTo (IsStated : StepMeanings → Type 0) (signatures : List Signature) (seen : Taken) (tx : Tx) (before : Place) (out : Out) (after : Place) (left : List Bool) : Type 0 where
   pub path : IsPathBehind out (depth tx) after.path
   pub writes : (rest : ℕ) → WritesFit rest before.path tx before.saves before.effect → LeavesRoom is_write 64 (λ e. length e.writes) rest out after.path tx after.saves after.effect
   pub names : (rest : ℕ) → NamesFit rest before.path tx before.saves before.effect → LeavesRoom is_check 8 (λ e. length e.names) rest out after.path tx after.saves after.effect
   pub retires : (rest : ℕ) → RetiresFit rest before.path tx before.saves before.effect → LeavesRoom is_retire 8 (λ e. length e.retired) rest out after.path tx after.saves after.effect
-  pub leads : (m : StepMeanings) (footprint : List ℕ → List ℕ) → IsStated m → AreOf shapes footprint → LeadsTo m footprint seen tx before out after left
+  pub leads : (m : StepMeanings) (footprint : List ℕ → List ℕ) → IsStated m → AreOf signatures footprint → LeadsTo m footprint seen tx before out after left
 
 -- the path with the child that leads to the place, where the run goes on
 abbrev pub with_child : Out → ℕ → List ℕ → List ℕ

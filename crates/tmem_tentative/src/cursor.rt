@@ -5,9 +5,9 @@ ghost use Rattle.indexmap.specs.IndexMap.{insert_entry, spare};
 ghost use Rattle.tmem_invariants.specs.Meanings.{Meanings};
 ghost use Rattle.tmem_tree.specs.declared.tx.Tx.{Tx};
 ghost use Rattle.tmem_tree.specs.Limits.{choices};
-ghost use Rattle.tmem_tree.specs.Shapes.{names_of};
+ghost use Rattle.tmem_tree.specs.Signatures.{names_of};
 ghost use Rattle.tmem_tree.specs.StepAnswers.{StepMeanings};
-ghost use Rattle.tmem_tree.specs.Plans.{PlanView, IsWithinLimits, FitsSteps, FitsVariables, FitsNames, FitsShapes, HasShapes};
+ghost use Rattle.tmem_tree.specs.Plans.{PlanView, IsWithinLimits, FitsSteps, FitsVariables, FitsNames, FitsSignatures, HasSignatures};
 ghost use Rattle.tmem_tentative.specs.Stages.{wanted, no_save};
 
 use crate::answers::Answers;
@@ -141,16 +141,16 @@ impl Cursor {
         requires steps { FitsSteps (S.arities steps.now) plan.now.tree }
         requires stands { (m : StepMeanings) → S.is_stated steps.now m → StandsIn m plan.now self.old }
         ensures stands { (m : StepMeanings) → S.is_stated steps.now m → StandsIn m plan.now self.new }
-        ensures at { (m : StepMeanings) (tests : Meanings) → S.is_stated steps.now m → FitsShapes tests plan.now → IsAt m tests plan.now.tree self.old → IsAt m tests plan.now.tree self.new }
+        ensures at { (m : StepMeanings) (tests : Meanings) → S.is_stated steps.now m → FitsSignatures tests plan.now → IsAt m tests plan.now.tree self.old → IsAt m tests plan.now.tree self.new }
         ensures given { given self.new ≡ given self.old }
         ensures answers { answers self.new ≡ answers self.old }
         ensures answered { IfOk result (Answered self.new) }
-        ensures right { (m : StepMeanings) (tests : Meanings) → S.is_stated steps.now m → FitsShapes tests plan.now → IsAt m tests plan.now.tree self.old
+        ensures right { (m : StepMeanings) (tests : Meanings) → S.is_stated steps.now m → FitsSignatures tests plan.now → IsAt m tests plan.now.tree self.old
             → IfOk result (λ progress. IsOutcome m tests plan.now.tree (given self.new) (length (answers self.new)) (outcome_of self.new progress)) }
         ensures fits { IfOk result (λ progress. IsFit (given self.new) (outcome_of self.new progress)) }
         ensures within { (vars : ℕ) → FitsVariables vars plan.now → IfOk result (λ progress. IsWithinVariables vars (outcome_of self.new progress)) }
         ensures named { (names : List (List ℕ)) → FitsNames names plan.now.tree → IfOk result (λ progress. IsNamed names (outcome_of self.new progress)) }
-        ensures filled { IfOk result (λ progress. IsFilled plan.now.shapes (outcome_of self.new progress)) }
+        ensures filled { IfOk result (λ progress. IsFilled plan.now.signatures (outcome_of self.new progress)) }
         ensures same { IfErr result (λ _. IsAsBefore self.old self.new) }
         ensures fault { IfErr result (λ fault. fault ≡ Fault.Memory) }
     {
@@ -172,16 +172,16 @@ impl Cursor {
         requires steps { FitsSteps (S.arities steps.now) plan.now.tree }
         requires stands { (m : StepMeanings) → S.is_stated steps.now m → StandsIn m plan.now self.old }
         ensures stands { (m : StepMeanings) → S.is_stated steps.now m → StandsIn m plan.now self.new }
-        ensures at { (m : StepMeanings) (tests : Meanings) → S.is_stated steps.now m → FitsShapes tests plan.now → IsAt m tests plan.now.tree self.old → IsAt m tests plan.now.tree self.new }
+        ensures at { (m : StepMeanings) (tests : Meanings) → S.is_stated steps.now m → FitsSignatures tests plan.now → IsAt m tests plan.now.tree self.old → IsAt m tests plan.now.tree self.new }
         ensures given { given self.new ≡ given self.old }
         ensures answers { answers self.new ≡ answers self.old }
         ensures answered { IfOk result (IsAnswer self.new) }
-        ensures right { (m : StepMeanings) (tests : Meanings) → S.is_stated steps.now m → FitsShapes tests plan.now → IsAt m tests plan.now.tree self.old
+        ensures right { (m : StepMeanings) (tests : Meanings) → S.is_stated steps.now m → FitsSignatures tests plan.now → IsAt m tests plan.now.tree self.old
             → IfOk result (IsOutcome m tests plan.now.tree (given self.new) (length (answers self.new))) }
         ensures fits { IfOk result (IsFit (given self.new)) }
         ensures within { (vars : ℕ) → FitsVariables vars plan.now → IfOk result (IsWithinVariables vars) }
         ensures named { (names : List (List ℕ)) → FitsNames names plan.now.tree → IfOk result (IsNamed names) }
-        ensures filled { IfOk result (IsFilled plan.now.shapes) }
+        ensures filled { IfOk result (IsFilled plan.now.signatures) }
         ensures same { IfErr result (λ _. IsAsBefore self.old self.new) }
         ensures fault { IfErr result (λ fault. fault ≡ Fault.Memory) }
     {
@@ -280,12 +280,12 @@ impl Cursor {
     fn go_on<S: StoredSteps>(&mut self, tree: &Tx, plan: &Plan, steps: &S) -> Progress
         requires tree { tree.now ≡ plan.now.tree }
         requires limits { IsWithinLimits plan.now.tree }
-        requires known { HasShapes (names_of plan.now.shapes) plan.now.tree }
+        requires known { HasSignatures (names_of plan.now.signatures) plan.now.tree }
         requires steps { FitsSteps (S.arities steps.now) plan.now.tree }
         requires stands { (m : StepMeanings) → S.is_stated steps.now m → StandsIn m plan.now self.old }
         requires going { self.old.stage ≡ Stage.Going }
         requires room { 1 ≤ spare self.old.course.attempt.reads }
-        ensures stands { (m : StepMeanings) (footprint : List ℕ → List ℕ) → S.is_stated steps.now m → AreOf plan.now.shapes footprint
+        ensures stands { (m : StepMeanings) (footprint : List ℕ → List ℕ) → S.is_stated steps.now m → AreOf plan.now.signatures footprint
             → IsAtStage m footprint plan.now.tree self.old.stage self.old → IsAtStage m footprint plan.now.tree self.new.stage self.new }
         ensures given { given self.new ≡ given self.old }
         ensures answers { answers self.new ≡ answers self.old }

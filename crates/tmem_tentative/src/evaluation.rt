@@ -3,7 +3,7 @@
 ghost use Rattle.std.specs.Prelude.{◌≡◌, ℕ, Bool, List, length, IfOk, IfErr};
 ghost use Rattle.tmem_invariants.specs.Meanings.{Meanings};
 ghost use Rattle.tmem_tree.specs.StepAnswers.{StepMeanings};
-ghost use Rattle.tmem_tree.specs.Plans.{FitsSteps, FitsVariables, FitsNames, FitsShapes};
+ghost use Rattle.tmem_tree.specs.Plans.{FitsSteps, FitsVariables, FitsNames, FitsSignatures};
 ghost use Rattle.tmem_tentative.specs.Right.{IsOutcome, HaveAnswered};
 ghost use Rattle.tmem_tentative.specs.Logs.{IsLeaving, run_state_of, flow_at, out_of};
 ghost use Rattle.tmem_tentative.specs.Ends.{IsEndOf, IsMadeOf};
@@ -29,14 +29,14 @@ pub fn evaluate<S: StoredSteps>(
     answers: &[bool],
 ) -> Result<Outcome, Fault>
     requires { FitsSteps (S.arities steps.now) plan.now.tree }
-    ensures right { (m : StepMeanings) (tests : Meanings) → S.is_stated steps.now m → FitsShapes tests plan.now → HaveAnswered m tests plan.now.tree reads.now.entries answers.now
+    ensures right { (m : StepMeanings) (tests : Meanings) → S.is_stated steps.now m → FitsSignatures tests plan.now → HaveAnswered m tests plan.now.tree reads.now.entries answers.now
         → IfOk result (IsOutcome m tests plan.now.tree reads.now.entries (length answers.now)) }
 
     // What holds of each answer, whatever the steps mean.
     ensures fits { IfOk result (IsFit reads.now.entries) }
     ensures within { (vars : ℕ) → FitsVariables vars plan.now → IfOk result (IsWithinVariables vars) }
     ensures named { (names : List (List ℕ)) → FitsNames names plan.now.tree → IfOk result (IsNamed names) }
-    ensures filled { IfOk result (IsFilled plan.now.shapes) }
+    ensures filled { IfOk result (IsFilled plan.now.signatures) }
     ensures fault { IfErr result (λ fault. fault ≡ Fault.Memory) }
 {
     let mut attempt = Attempt {
@@ -46,7 +46,7 @@ pub fn evaluate<S: StoredSteps>(
         effect: Effect::new(),
     };
     let given = Given {
-        shapes: plan.shapes(),
+        signatures: plan.signatures(),
         reads,
         answers,
     };

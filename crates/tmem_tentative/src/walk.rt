@@ -8,7 +8,7 @@ ghost use Rattle.tmem_effect.specs.Names.{has_name};
 ghost use Rattle.tmem_effect.specs.Writes.{value_in};
 ghost use Rattle.tmem_tree.specs.Limits.{count, is_write, is_check, is_retire, is_no_register};
 ghost use Rattle.tmem_tree.specs.Run.{register};
-ghost use Rattle.tmem_tree.specs.Shapes.{names_of, footprint_in};
+ghost use Rattle.tmem_tree.specs.Signatures.{names_of, footprint_in};
 ghost use Rattle.tmem_tentative.specs.Eval.{eval, read, eval_answered, seen_of, noted_of, footprint_seen, eval_checked, tested};
 ghost use Rattle.tmem_tentative.specs.declared.attempt.Probe.{Probe as Asked};
 ghost use Rattle.tmem_tentative.specs.Places.{IsLeaf};
@@ -19,13 +19,13 @@ use crate::flow::Flow;
 use std::alloc::{AllocError, Global};
 use tmem_effect::Effect;
 use tmem_fault::{Fault, Name};
-use tmem_tree::{MAX_ARGUMENTS, REGISTERS, Shape, StepAnswer, StoredSteps, Tx, footprint_of};
+use tmem_tree::{MAX_ARGUMENTS, REGISTERS, Signature, StepAnswer, StoredSteps, Tx, footprint_of};
 
 /// What a run is handed.
 #[derive(Clone, Copy)]
 pub(crate) struct Given<'a> {
     /// The footprints of the invariants that it checks.
-    pub shapes: &'a [Shape],
+    pub signatures: &'a [Signature],
     /// The values of variables.
     pub reads: &'a Reads,
     /// The answers to its first tests, in order.
@@ -51,11 +51,11 @@ pub(crate) fn walk<S: StoredSteps>(
     log: &mut Attempt,
     tests: &mut Tests,
 ) -> Result<Flow, Fault>
-    requires { MayWalk (S.arities steps.now) (names_of given.now.shapes.now) tx.now log.old.effect }
+    requires { MayWalk (S.arities steps.now) (names_of given.now.signatures.now) tx.now log.old.effect }
     ensures room { length log.new.effect.writes ≤ length log.old.effect.writes + count is_write tx.now }
     ensures names { length log.new.effect.names ≤ length log.old.effect.names + count is_check tx.now }
     ensures retired { length log.new.effect.retired ≤ length log.old.effect.retired + count is_retire tx.now }
-    ensures flow { (m : StepMeanings) (footprint : List ℕ → List ℕ) → S.is_stated steps.now m → AreOf given.now.shapes.now footprint → IfOk result (λ flow. flow_at (out_of flow log.new tests.new.probe) (run_state_of log.new (drop tests.new.used given.now.answers.now))
+    ensures flow { (m : StepMeanings) (footprint : List ℕ → List ℕ) → S.is_stated steps.now m → AreOf given.now.signatures.now footprint → IfOk result (λ flow. flow_at (out_of flow log.new tests.new.probe) (run_state_of log.new (drop tests.new.used given.now.answers.now))
         ≡ eval m footprint given.now.reads.now.entries tx.now (run_state_of log.old (drop tests.old.used given.now.answers.now))) }
     ensures leaves { result ≡ Ok Flow.Leave → IsLeaving log.new.ending }
     ensures fault { IfErr result (λ fault. fault ≡ Fault.Memory) }
@@ -95,11 +95,11 @@ fn act<S: StoredSteps>(
     tests: &mut Tests,
 ) -> Result<Flow, Fault>
     requires leaf { IsLeaf tx.now }
-    requires may { MayWalk (S.arities steps.now) (names_of given.now.shapes.now) tx.now log.old.effect }
+    requires may { MayWalk (S.arities steps.now) (names_of given.now.signatures.now) tx.now log.old.effect }
     ensures room { length log.new.effect.writes ≤ length log.old.effect.writes + count is_write tx.now }
     ensures names { length log.new.effect.names ≤ length log.old.effect.names + count is_check tx.now }
     ensures retired { length log.new.effect.retired ≤ length log.old.effect.retired + count is_retire tx.now }
-    ensures flow { (m : StepMeanings) (footprint : List ℕ → List ℕ) → S.is_stated steps.now m → AreOf given.now.shapes.now footprint → IfOk result (λ flow. flow_at (out_of flow log.new tests.new.probe) (run_state_of log.new (drop tests.new.used given.now.answers.now))
+    ensures flow { (m : StepMeanings) (footprint : List ℕ → List ℕ) → S.is_stated steps.now m → AreOf given.now.signatures.now footprint → IfOk result (λ flow. flow_at (out_of flow log.new tests.new.probe) (run_state_of log.new (drop tests.new.used given.now.answers.now))
         ≡ eval m footprint given.now.reads.now.entries tx.now (run_state_of log.old (drop tests.old.used given.now.answers.now))) }
     ensures leaves { result ≡ Ok Flow.Leave → IsLeaving log.new.ending }
     ensures fault { IfErr result (λ fault. fault ≡ Fault.Memory) }
@@ -141,11 +141,11 @@ fn walk_first<S: StoredSteps>(
     log: &mut Attempt,
     tests: &mut Tests,
 ) -> Result<Flow, Fault>
-    requires { MayWalk (S.arities steps.now) (names_of given.now.shapes.now) tx.now log.old.effect }
+    requires { MayWalk (S.arities steps.now) (names_of given.now.signatures.now) tx.now log.old.effect }
     ensures room { length log.new.effect.writes ≤ length log.old.effect.writes + count is_write tx.now }
     ensures names { length log.new.effect.names ≤ length log.old.effect.names + count is_check tx.now }
     ensures retired { length log.new.effect.retired ≤ length log.old.effect.retired + count is_retire tx.now }
-    ensures flow { (m : StepMeanings) (footprint : List ℕ → List ℕ) → S.is_stated steps.now m → AreOf given.now.shapes.now footprint → IfOk result (λ flow. flow_at (out_of flow log.new tests.new.probe) (run_state_of log.new (drop tests.new.used given.now.answers.now))
+    ensures flow { (m : StepMeanings) (footprint : List ℕ → List ℕ) → S.is_stated steps.now m → AreOf given.now.signatures.now footprint → IfOk result (λ flow. flow_at (out_of flow log.new tests.new.probe) (run_state_of log.new (drop tests.new.used given.now.answers.now))
         ≡ eval m footprint given.now.reads.now.entries tx.now (run_state_of log.old (drop tests.old.used given.now.answers.now))) }
     ensures leaves { result ≡ Ok Flow.Leave → IsLeaving log.new.ending }
     ensures registers { result ≡ Ok Flow.Retry → log.new.registers ≡ log.old.registers }
@@ -218,18 +218,18 @@ fn see(reads: &Reads, log: &mut Attempt, var: u16) -> Result<Option<i64>, Fault>
 // A Check of one invariant, in a frame of its own: few runs have one.
 #[inline(never)]
 fn check(given: &Given, log: &mut Attempt, tests: &mut Tests, name: &Name) -> Result<Flow, Fault>
-    requires known { has_name (names_of given.now.shapes.now) name.now ≡ true }
+    requires known { has_name (names_of given.now.signatures.now) name.now ≡ true }
     requires room { length log.old.effect.names < 8 }
     ensures writes { log.new.effect.writes ≡ log.old.effect.writes }
     ensures names { length log.new.effect.names ≤ length log.old.effect.names + 1 }
     ensures retired { length log.new.effect.retired ≤ length log.old.effect.retired }
     ensures flow { IfOk result (λ flow. flow_at (out_of flow log.new tests.new.probe) (run_state_of log.new (drop tests.new.used given.now.answers.now))
-        ≡ eval_checked (footprint_seen given.now.reads.now.entries (footprint_in given.now.shapes.now name.now) (run_state_of log.old (drop tests.old.used given.now.answers.now))) name.now) }
+        ≡ eval_checked (footprint_seen given.now.reads.now.entries (footprint_in given.now.signatures.now name.now) (run_state_of log.old (drop tests.old.used given.now.answers.now))) name.now) }
     ensures leaves { result ≡ Ok Flow.Leave → IsLeaving log.new.ending }
     ensures fault { IfErr result (λ fault. fault ≡ Fault.Memory) }
 {
     tests.probe.name = *name;
-    let vars = footprint_of(given.shapes, name);
+    let vars = footprint_of(given.signatures, name);
     if let Some(lacking) = see_all(given.reads, log, vars, &mut tests.probe.values)? {
         return Ok(Flow::Need(lacking));
     }

@@ -8,7 +8,7 @@ ghost use Rattle.tmem_effect.specs.declared.effect.Effect.{Effect};
 ghost use Rattle.tmem_tree.specs.Limits.{count, is_write, is_check, is_retire};
 ghost use Rattle.tmem_effect.specs.Names.{has_name};
 ghost use Rattle.tmem_tree.specs.Run.{register, is_zero};
-ghost use Rattle.tmem_tree.specs.Shapes.{footprint_in, names_of};
+ghost use Rattle.tmem_tree.specs.Signatures.{footprint_in, names_of};
 ghost use Rattle.tmem_tree.specs.Visited.{Ask};
 ghost use Rattle.tmem_tentative.specs.declared.attempt.Probe.{Probe as Asked};
 ghost use Rattle.tmem_tentative.specs.declared.save.Save.{Save};
@@ -35,10 +35,10 @@ pub(crate) fn walk_on<S: StoredSteps>(
     course: &mut Course,
     saves: &mut [Save],
 ) -> Flow
-    requires { MayRunFrom (S.arities steps.now) (names_of plan.now.shapes) tx.now (place_at course.old saves.old) }
+    requires { MayRunFrom (S.arities steps.now) (names_of plan.now.signatures) tx.now (place_at course.old saves.old) }
     ensures reads { course.new.attempt.reads ≡ course.old.attempt.reads }
     ensures leaves { result ≡ Flow.Leave → IsLeaving course.new.attempt.ending }
-    ensures runs { RunsTo (S.is_stated steps.now) plan.now.shapes (taken_at course.old) tx.now (place_at course.old saves.old) (out_at result course.new) (place_at course.new saves.new) (option_to_list course.new.pending) }
+    ensures runs { RunsTo (S.is_stated steps.now) plan.now.signatures (taken_at course.old) tx.now (place_at course.old saves.old) (out_at result course.new) (place_at course.new saves.new) (option_to_list course.new.pending) }
 {
     match tx {
         Tx::Seq(txs) => {
@@ -102,10 +102,10 @@ fn walk_part<S: StoredSteps>(
     course: &mut Course,
     saves: &mut [Save],
 ) -> Flow
-    requires { MayRunFrom (S.arities steps.now) (names_of plan.now.shapes) tx.now (place_at course.old saves.old) }
+    requires { MayRunFrom (S.arities steps.now) (names_of plan.now.signatures) tx.now (place_at course.old saves.old) }
     ensures reads { course.new.attempt.reads ≡ course.old.attempt.reads }
     ensures leaves { result ≡ Flow.Leave → IsLeaving course.new.attempt.ending }
-    ensures runs { RunsTo (S.is_stated steps.now) plan.now.shapes (taken_at course.old) tx.now (place_at course.old saves.old) (out_at result course.new) (place_at course.new saves.new) (option_to_list course.new.pending) }
+    ensures runs { RunsTo (S.is_stated steps.now) plan.now.signatures (taken_at course.old) tx.now (place_at course.old saves.old) (out_at result course.new) (place_at course.new saves.new) (option_to_list course.new.pending) }
 {
     if is_leaf(tx) {
         act(tx, plan, steps, course)
@@ -187,7 +187,7 @@ fn go_back(log: &mut Attempt, save: &Save)
 #[inline(always)]
 fn act<S: StoredSteps>(tx: &Tx, plan: &Plan, steps: &S, course: &mut Course) -> Flow
     requires leaf { IsLeaf tx.now }
-    requires may { MayWalk (S.arities steps.now) (names_of plan.now.shapes) tx.now course.old.attempt.effect }
+    requires may { MayWalk (S.arities steps.now) (names_of plan.now.signatures) tx.now course.old.attempt.effect }
     ensures leaf { IsLeaf tx.now }
     ensures reads { course.new.attempt.reads ≡ course.old.attempt.reads }
     ensures path { course.new.path ≡ course.old.path }
@@ -196,7 +196,7 @@ fn act<S: StoredSteps>(tx: &Tx, plan: &Plan, steps: &S, course: &mut Course) -> 
     ensures retired { length course.new.attempt.effect.retired ≤ length course.old.attempt.effect.retired + count is_retire tx.now }
     ensures stays { (ask : Ask) → out_at result course.new ≡ Stopped ask → course.new.attempt.effect ≡ course.old.attempt.effect }
     ensures leaves { result ≡ Flow.Leave → IsLeaving course.new.attempt.ending }
-    ensures leads { (m : StepMeanings) (footprint : List ℕ → List ℕ) → S.is_stated steps.now m → AreOf plan.now.shapes footprint → (saves : List Save)
+    ensures leads { (m : StepMeanings) (footprint : List ℕ → List ℕ) → S.is_stated steps.now m → AreOf plan.now.signatures footprint → (saves : List Save)
         → LeadsTo m footprint (taken_at course.old) tx.now (place_of course.old.attempt [] saves) (out_at result course.new) (place_of course.new.attempt [] saves) (option_to_list course.new.pending) }
 {
     match tx {
@@ -268,7 +268,7 @@ fn value_read(reads: &Reads, var: u16) -> Option<i64>
 // answered.
 #[inline(never)]
 fn check(name: &Name, plan: &Plan, course: &mut Course) -> Flow
-    requires known { has_name (names_of plan.now.shapes) name.now ≡ true }
+    requires known { has_name (names_of plan.now.signatures) name.now ≡ true }
     requires room { length course.old.attempt.effect.names < 8 }
     ensures reads { course.new.attempt.reads ≡ course.old.attempt.reads }
     ensures path { course.new.path ≡ course.old.path }
@@ -277,11 +277,11 @@ fn check(name: &Name, plan: &Plan, course: &mut Course) -> Flow
     ensures retired { length course.new.attempt.effect.retired ≤ length course.old.attempt.effect.retired }
     ensures stays { (ask : Ask) → out_at result course.new ≡ Stopped ask → course.new.attempt ≡ course.old.attempt }
     ensures leaves { result ≡ Flow.Leave → IsLeaving course.new.attempt.ending }
-    ensures leads { (m : StepMeanings) (footprint : List ℕ → List ℕ) (saves : List Save) → footprint name.now ≡ footprint_in plan.now.shapes name.now
+    ensures leads { (m : StepMeanings) (footprint : List ℕ → List ℕ) (saves : List Save) → footprint name.now ≡ footprint_in plan.now.signatures name.now
         → LeadsTo m footprint (taken_at course.old) (Tx.Check name.now) (place_of course.old.attempt [] saves) (out_at result course.new) (place_of course.new.attempt [] saves) (option_to_list course.new.pending) }
 {
     course.probe.name = *name;
-    let vars = footprint_of(plan.shapes(), name);
+    let vars = footprint_of(plan.signatures(), name);
     if let Some(lacking) = see_given(&course.attempt, vars, &mut course.probe.values) {
         return Flow::Need(lacking);
     }

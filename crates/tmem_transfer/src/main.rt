@@ -79,7 +79,7 @@ fn transfer<D: Disk + Drop, T: Invariants + Drop, S: StoredSteps + Drop>(
     let Reply::Opened(opened) = reply_or_fault(world.step(Event::Reopen))? else {
         return Err(Fault::Closed);
     };
-    if !world.is_open() {
+    if !world.has_core() {
         return Err(Fault::Closed);
     }
     Ok(Outcome {

@@ -4,9 +4,9 @@ use Rattle.std.proofs.lemmas.Bool.{cond_both}
 use Rattle.std.proofs.lemmas.Bool.Decides.{nat_tests}
 use Rattle.tmem_tree.specs.declared.tx.Tx.{Tx, Row_of-Tx, end_of-Tx, more_of-Tx}
 use Rattle.tmem_tree.specs.declared.tx.Tx.TheVariants.{Seq', Put, When', OrElse'}
-use Rattle.tmem_tree.specs.Limits.{depth, depth_of_all, choices, choices_of_all, one_if, count, count_all, is_put, is_node, is_write, is_check, is_retire, is_step, has_bad_register, has_bad_variable, has_bad_step, has_bad_arguments, has_unknown_name, lacks_shape}
-use Rattle.tmem_tree.specs.declared.shape.Shape.{Shape}
-use Rattle.tmem_tree.specs.Plans.{IsWithinLimits, FitsSteps, FitsVariables, FitsNames, HasShapes, IsShortTx}
+use Rattle.tmem_tree.specs.Limits.{depth, depth_of_all, choices, choices_of_all, one_if, count, count_all, is_put, is_node, is_write, is_check, is_retire, is_step, has_bad_register, has_bad_variable, has_bad_step, has_bad_arguments, has_unknown_name, lacks_signature}
+use Rattle.tmem_tree.specs.declared.signature.Signature.{Signature}
+use Rattle.tmem_tree.specs.Plans.{IsWithinLimits, FitsSteps, FitsVariables, FitsNames, HasSignatures, IsShortTx}
 use Rattle.tmem_tree.specs.Numbers.{with_number, with_number_in}
 
 -- a test that looks at what a node is, and at no number and no tree below it
@@ -104,8 +104,8 @@ looks-has_bad_arguments arities = record { put = refl; seq = refl; when = refl; 
 looks-has_unknown_name : (names : List (List ℕ)) → LooksAtNode (has_unknown_name names)
 looks-has_unknown_name names = record { put = refl; seq = refl; when = refl; or_else = refl }
 
-looks-lacks_shape : (names : List (List ℕ)) → LooksAtNode (lacks_shape names)
-looks-lacks_shape names = record { put = refl; seq = refl; when = refl; or_else = refl }
+looks-lacks_signature : (names : List (List ℕ)) → LooksAtNode (lacks_signature names)
+looks-lacks_signature names = record { put = refl; seq = refl; when = refl; or_else = refl }
 
 -- the tree behind a change is like the one before it
 pub alike_by : (index : ℕ) (n : ℤ) (old new : Tx) → new ≡ with_number index n old → IsAlike old new
@@ -134,8 +134,8 @@ module _ {old new : Tx} (same : IsAlike old new) where
     given = same.counts _ (looks-has_bad_arguments arities) ∙ fits.given;
   }
 
-  pub variables_kept : (vars : ℕ) (shapes : List Shape) → FitsVariables vars (record { tree = old; shapes = shapes }) → FitsVariables vars (record { tree = new; shapes = shapes })
-  variables_kept vars shapes fits = record {
+  pub variables_kept : (vars : ℕ) (signatures : List Signature) → FitsVariables vars (record { tree = old; signatures = signatures }) → FitsVariables vars (record { tree = new; signatures = signatures })
+  variables_kept vars signatures fits = record {
     named = same.counts _ (looks-has_bad_variable vars) ∙ fits.named;
     footprints = fits.footprints;
   }
@@ -143,8 +143,8 @@ module _ {old new : Tx} (same : IsAlike old new) where
   pub names_kept : (names : List (List ℕ)) → FitsNames names old → FitsNames names new
   names_kept names fits = same.counts _ (looks-has_unknown_name names) ∙ fits
 
-  pub still_shaped : (names : List (List ℕ)) → HasShapes names old → HasShapes names new
-  still_shaped names shaped = same.counts _ (looks-lacks_shape names) ∙ shaped
+  pub still_covered : (names : List (List ℕ)) → HasSignatures names old → HasSignatures names new
+  still_covered names covered = same.counts _ (looks-lacks_signature names) ∙ covered
 
 -- behind the last index nothing changes
 mutual

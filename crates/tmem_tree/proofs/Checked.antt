@@ -1,4 +1,4 @@
--- Which names shapes have once one more is put behind them.
+-- Which names signatures have once one more is put behind them.
 use Rattle.std.proofs.Common.{◌≡◌, ℕ, ◌+◌, ◌<◌, ◌≤◌, Bool, true, false, ◌||◌, bytes_eq, List, [], ◌∷◌, ◌++◌, length, get_or, All, refl, sym, subst, ◌∙◌, arith}
 use Rattle.std.specs.Prelude.{◌≢◌}
 use Rattle.std.proofs.lemmas.List.{map-append}
@@ -8,9 +8,9 @@ use Rattle.std.proofs.lemmas.List.Quantifiers.{all_pairs_push}
 use Rattle.std.proofs.lemmas.Slice.Eq.{bytes_eq-Decides}
 use Rattle.tmem_fault.specs.Distinct.{AreDistinct}
 use Rattle.tmem_fault.specs.Name.{has_name}
-use Rattle.tmem_tree.specs.declared.shape.Shape.{Shape}
+use Rattle.tmem_tree.specs.declared.signature.Signature.{Signature}
 use Rattle.tmem_tree.specs.Limits.{one_if}
-use Rattle.tmem_tree.specs.Shapes.{names_of}
+use Rattle.tmem_tree.specs.Signatures.{names_of}
 
 alone : (b : Bool) → one_if (b || false) ≤ one_if false + one_if b
 alone true = omega arith
@@ -21,20 +21,20 @@ behind true was now one more = omega arith
 behind false was now one more = more
 
 -- no name more than that of the last
-pub has_name-others : (shapes : List Shape) (shape : Shape) (name other : List ℕ) → shape.name ≡ name → one_if (has_name (names_of (shapes ++ shape ∷ [])) other) ≤ one_if (has_name (names_of shapes) other) + one_if (bytes_eq name other)
-has_name-others [] shape name other is =
-    subst (λ n. one_if (bytes_eq shape.name other || false) ≤ one_if false + one_if (bytes_eq n other)) is (alone (bytes_eq shape.name other))
-has_name-others (s ∷ ss) shape name other is =
-    behind (bytes_eq s.name other) (has_name (names_of ss) other) (has_name (names_of (ss ++ shape ∷ [])) other) (bytes_eq name other) (has_name-others ss shape name other is)
+pub has_name-others : (signatures : List Signature) (signature : Signature) (name other : List ℕ) → signature.name ≡ name → one_if (has_name (names_of (signatures ++ signature ∷ [])) other) ≤ one_if (has_name (names_of signatures) other) + one_if (bytes_eq name other)
+has_name-others [] signature name other is =
+    subst (λ n. one_if (bytes_eq signature.name other || false) ≤ one_if false + one_if (bytes_eq n other)) is (alone (bytes_eq signature.name other))
+has_name-others (s ∷ ss) signature name other is =
+    behind (bytes_eq s.name other) (has_name (names_of ss) other) (has_name (names_of (ss ++ signature ∷ [])) other) (bytes_eq name other) (has_name-others ss signature name other is)
 
 -- a name that was not there stands once
-pub distinct_pushed : (shapes : List Shape) (shape : Shape) (name : List ℕ) → shape.name ≡ name → has_name (names_of shapes) name ≡ false → AreDistinct (names_of shapes) → AreDistinct (names_of (shapes ++ shape ∷ []))
-distinct_pushed shapes shape name is none distinct =
-    subst AreDistinct (sym (map-append (λ (s : Shape). s.name) shapes (shape ∷ []))) (all_pairs_push (λ a b. a ≢ b) (names_of shapes) shape.name distinct apart)
+pub distinct_pushed : (signatures : List Signature) (signature : Signature) (name : List ℕ) → signature.name ≡ name → has_name (names_of signatures) name ≡ false → AreDistinct (names_of signatures) → AreDistinct (names_of (signatures ++ signature ∷ []))
+distinct_pushed signatures signature name is none distinct =
+    subst AreDistinct (sym (map-append (λ (s : Signature). s.name) signatures (signature ∷ []))) (all_pairs_push (λ a b. a ≢ b) (names_of signatures) signature.name distinct apart)
   where
-    apart : (k : ℕ) (d : List ℕ) → k < length (names_of shapes) → get_or (names_of shapes) k d ≢ shape.name
+    apart : (k : ℕ) (d : List ℕ) → k < length (names_of signatures) → get_or (names_of signatures) k d ≢ signature.name
     apart k d within same =
-        let found : has_name (names_of shapes) name ≡ true = list_any_at (λ n. bytes_eq n name) (names_of shapes) k d within ((bytes_eq-Decides (get_or (names_of shapes) k d) name).1 (same ∙ is)) in
+        let found : has_name (names_of signatures) name ≡ true = list_any_at (λ n. bytes_eq n name) (names_of signatures) k d within ((bytes_eq-Decides (get_or (names_of signatures) k d) name).1 (same ∙ is)) in
         let clash : true ≡ false = sym found ∙ none in
         cc
 
@@ -47,7 +47,7 @@ later_known true later is = refl
 later_known false later is = is
 
 -- what each name has that is among theirs, all of theirs have
-pub All-names : (P : List ℕ → Type 0) (shapes : List Shape) → ((name : List ℕ) → has_name (names_of shapes) name ≡ true → P name) → All P (names_of shapes)
+pub All-names : (P : List ℕ → Type 0) (signatures : List Signature) → ((name : List ℕ) → has_name (names_of signatures) name ≡ true → P name) → All P (names_of signatures)
 All-names P [] each = All-nil P
 All-names P (s ∷ ss) each =
     All-cons P s.name (names_of ss) (each s.name (first_known (bytes_eq s.name s.name) (has_name (names_of ss) s.name) ((bytes_eq-Decides s.name s.name).1 refl)))

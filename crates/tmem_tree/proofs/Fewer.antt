@@ -2,8 +2,8 @@
 use Rattle.std.proofs.Common.{◌≡◌, ℕ, ◌+◌, Bool, true, false, List, refl, ap, arith}
 use Rattle.tmem_tree.specs.declared.tx.Tx.{Tx, Row_of-Tx, end_of-Tx, more_of-Tx}
 use Rattle.tmem_tree.specs.declared.tx.Tx.TheVariants.{Skip, Seq', Put, Read, Write, Step, When', OrElse', Retry, Abort, Check, Retire}
-use Rattle.tmem_tree.specs.Limits.{one_if, count, count_all, has_unknown_name, lacks_shape}
-use Rattle.tmem_tree.specs.Plans.{FitsNames, HasShapes}
+use Rattle.tmem_tree.specs.Limits.{one_if, count, count_all, has_unknown_name, lacks_signature}
+use Rattle.tmem_tree.specs.Plans.{FitsNames, HasSignatures}
 
 module _ (p q : Tx → Bool) (fewer : (tx : Tx) → p tx ≡ false → q tx ≡ false) where
   none_here : (tx : Tx) → one_if (p tx) ≡ 0 → one_if (q tx) ≡ 0
@@ -39,9 +39,9 @@ module _ (p q : Tx → Bool) (fewer : (tx : Tx) → p tx ≡ false → q tx ≡ 
     none_left_all (more_of-Tx tx txs) none = both _ _ _ _ (none_left tx) (none_left_all txs) none
 
 -- where each name that it names is known, each that it checks is
-known_shape : (names : List (List ℕ)) (tx : Tx) → has_unknown_name names tx ≡ false → lacks_shape names tx ≡ false
-known_shape names (Check name) fine = fine
-known_shape names _ fine = refl
+known_signature : (names : List (List ℕ)) (tx : Tx) → has_unknown_name names tx ≡ false → lacks_signature names tx ≡ false
+known_signature names (Check name) fine = fine
+known_signature names _ fine = refl
 
-pub has_shapes : (names : List (List ℕ)) (tx : Tx) → FitsNames names tx → HasShapes names tx
-has_shapes names = none_left (has_unknown_name names) (lacks_shape names) (known_shape names)
+pub has_signatures : (names : List (List ℕ)) (tx : Tx) → FitsNames names tx → HasSignatures names tx
+has_signatures names = none_left (has_unknown_name names) (lacks_signature names) (known_signature names)

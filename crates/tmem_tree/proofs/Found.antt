@@ -1,4 +1,4 @@
--- What a look-up among shapes finds.
+-- What a look-up among signatures finds.
 use Rattle.std.proofs.Common.{◌≡◌, ℕ, ◌<◌, Bool, true, false, not, cond, ◌||◌, bytes_eq, List, [], ◌∷◌, ◌++◌, map, find, Contains, Option, Some, None, is_some, option_map, refl, sym, ap, subst, ◌∙◌, arith}
 use Rattle.std.specs.Option.{IsSome, option_map_or}
 use Rattle.std.specs.List.{list_any}
@@ -7,8 +7,8 @@ use Rattle.std.proofs.lemmas.Slice.Eq.{bytes_eq-Decides}
 use Rattle.tmem_fault.specs.Name.{has_name}
 use Rattle.tmem_invariants.specs.Meanings.{Meanings}
 use Rattle.tmem_invariants.specs.TableNames.{AreBelow}
-use Rattle.tmem_tree.specs.declared.shape.Shape.{Shape}
-use Rattle.tmem_tree.specs.Shapes.{AreMeant, AreWithin, names_of, shape_in, footprint_in}
+use Rattle.tmem_tree.specs.declared.signature.Signature.{Signature}
+use Rattle.tmem_tree.specs.Signatures.{AreMeant, AreWithin, names_of, signature_in, footprint_in}
 
 -- what is found is there, and passes
 found_first : {X : Type 0} (p : X → Bool) (y : X) (ys : List X) (x : X) → (find p ys ≡ Some x → Contains ys x × (p x ≡ true)) → (b : Bool) → p y ≡ b → cond b (Some y) (find p ys) ≡ Some x → Contains (y ∷ ys) x × (p x ≡ true)
@@ -35,15 +35,15 @@ list_any-map p f [] = refl
 list_any-map p f (x ∷ xs) = ap (λ b. p (f x) || b) (list_any-map p f xs)
 
 -- a name is found where it is one of theirs
-pub is_some-shape_in : (shapes : List Shape) (name : List ℕ) → is_some (shape_in shapes name) ≡ has_name (names_of shapes) name
-is_some-shape_in shapes name =
-    is_some-find (λ shape. bytes_eq shape.name name) shapes
-    ∙ sym (list_any-map (λ other. bytes_eq other name) (λ (shape : Shape). shape.name) shapes)
+pub is_some-signature_in : (signatures : List Signature) (name : List ℕ) → is_some (signature_in signatures name) ≡ has_name (names_of signatures) name
+is_some-signature_in signatures name =
+    is_some-find (λ signature. bytes_eq signature.name name) signatures
+    ∙ sym (list_any-map (λ other. bytes_eq other name) (λ (signature : Signature). signature.name) signatures)
 
 -- by that name
-pub found_shape : (shapes : List Shape) (name : List ℕ) (shape : Shape) → shape_in shapes name ≡ Some shape → Contains shapes shape × (shape.name ≡ name)
-found_shape shapes name shape is =
-    let f = found (λ (s : Shape). bytes_eq s.name name) shapes shape is in (f.0, (bytes_eq-Decides shape.name name).0 f.1)
+pub found_signature : (signatures : List Signature) (name : List ℕ) (signature : Signature) → signature_in signatures name ≡ Some signature → Contains signatures signature × (signature.name ≡ name)
+found_signature signatures name signature is =
+    let f = found (λ (s : Signature). bytes_eq s.name name) signatures signature is in (f.0, (bytes_eq-Decides signature.name name).0 f.1)
 
 -- what the code found shows what is found
 pub IsSome-shown : {E X : Type 0} (show : E → X) (o : Option E) (there : Option X) → option_map show o ≡ there → is_some there ≡ true → IsSome o
@@ -65,35 +65,35 @@ either_known : (first later : Bool) → later ≡ true → (first || later) ≡ 
 either_known true later some = refl
 either_known false later some = some
 
-pub has_name-pushed : (shapes : List Shape) (shape : Shape) (name : List ℕ) → shape.name ≡ name → has_name (names_of (shapes ++ shape ∷ [])) name ≡ true
-has_name-pushed [] shape name is =
-    ap (λ b. b || false) ((bytes_eq-Decides shape.name name).1 is)
-has_name-pushed (s ∷ ss) shape name is =
-    either_known (bytes_eq s.name name) (has_name (names_of (ss ++ shape ∷ [])) name) (has_name-pushed ss shape name is)
+pub has_name-pushed : (signatures : List Signature) (signature : Signature) (name : List ℕ) → signature.name ≡ name → has_name (names_of (signatures ++ signature ∷ [])) name ≡ true
+has_name-pushed [] signature name is =
+    ap (λ b. b || false) ((bytes_eq-Decides signature.name name).1 is)
+has_name-pushed (s ∷ ss) signature name is =
+    either_known (bytes_eq s.name name) (has_name (names_of (ss ++ signature ∷ [])) name) (has_name-pushed ss signature name is)
 
--- a name that is known has a shape
-known_shape : (o : Option Shape) → is_some o ≡ true → (shape : Shape) × (o ≡ Some shape)
-known_shape (Some shape) some = (shape, refl)
-known_shape None some = absurd (cc)
+-- a name that is known has a signature
+known_signature : (o : Option Signature) → is_some o ≡ true → (signature : Signature) × (o ≡ Some signature)
+known_signature (Some signature) some = (signature, refl)
+known_signature None some = absurd (cc)
 
-shape_of_known : (shapes : List Shape) (name : List ℕ) → has_name (names_of shapes) name ≡ true → (shape : Shape) × (shape_in shapes name ≡ Some shape)
-shape_of_known shapes name there =
-    known_shape (shape_in shapes name) (is_some-shape_in shapes name ∙ there)
+signature_of_known : (signatures : List Signature) (name : List ℕ) → has_name (names_of signatures) name ≡ true → (signature : Signature) × (signature_in signatures name ≡ Some signature)
+signature_of_known signatures name there =
+    known_signature (signature_in signatures name) (is_some-signature_in signatures name ∙ there)
 
--- the footprint of a known name is what is meant, where the shapes are
-pub footprint_in-AreMeant : (tests : Meanings) (shapes : List Shape) (name : List ℕ) → AreMeant tests shapes → has_name (names_of shapes) name ≡ true → footprint_in shapes name ≡ tests.footprint name
-footprint_in-AreMeant tests shapes name meant there =
-    let s = shape_of_known shapes name there in
-    let f = found_shape shapes name s.0 s.1 in
-    ap (λ o. option_map_or (λ (shape : Shape). shape.footprint) o []) s.1
-    ∙ All-contains (λ (shape : Shape). shape.footprint ≡ tests.footprint shape.name) shapes s.0 meant f.0
+-- the footprint of a known name is what is meant, where the signatures are
+pub footprint_in-AreMeant : (tests : Meanings) (signatures : List Signature) (name : List ℕ) → AreMeant tests signatures → has_name (names_of signatures) name ≡ true → footprint_in signatures name ≡ tests.footprint name
+footprint_in-AreMeant tests signatures name meant there =
+    let s = signature_of_known signatures name there in
+    let f = found_signature signatures name s.0 s.1 in
+    ap (λ o. option_map_or (λ (signature : Signature). signature.footprint) o []) s.1
+    ∙ All-contains (λ (signature : Signature). signature.footprint ≡ tests.footprint signature.name) signatures s.0 meant f.0
     ∙ ap tests.footprint f.1
 
 -- each variable of a footprint is below what those of all are
-pub AreBelow-footprint_in : (vars : ℕ) (shapes : List Shape) (name : List ℕ) → AreWithin vars shapes → AreBelow vars (footprint_in shapes name)
-AreBelow-footprint_in vars shapes name within = on (shape_in shapes name) refl
+pub AreBelow-footprint_in : (vars : ℕ) (signatures : List Signature) (name : List ℕ) → AreWithin vars signatures → AreBelow vars (footprint_in signatures name)
+AreBelow-footprint_in vars signatures name within = on (signature_in signatures name) refl
   where
-    on : (o : Option Shape) → shape_in shapes name ≡ o → AreBelow vars (option_map_or (λ (shape : Shape). shape.footprint) o [])
+    on : (o : Option Signature) → signature_in signatures name ≡ o → AreBelow vars (option_map_or (λ (signature : Signature). signature.footprint) o [])
     on None is = All-nil (λ var. var < vars)
-    on (Some shape) is =
-        All-contains (λ (s : Shape). AreBelow vars s.footprint) shapes shape within (found_shape shapes name shape is).0
+    on (Some signature) is =
+        All-contains (λ (s : Signature). AreBelow vars s.footprint) signatures signature within (found_signature signatures name signature is).0

@@ -1,4 +1,4 @@
--- Depth, choices and counts of a Seq, over the list of its trees; and what a look-up among shapes finds.
+-- Depth, choices and counts of a Seq, over the list of its trees; and what a look-up among signatures finds.
 use Rattle.std.proofs.Common.{◌≡◌, ℕ, ◌+◌, Bool, max, List, [], ◌∷◌, refl, ap, rules}
 use Rattle.std.specs.declared.vec.Vec.{Vec}
 use Rattle.std.specs.declared.alloc.Global.{Global}
@@ -7,7 +7,7 @@ use Rattle.tmem_tree.specs.declared.tx.Tx.TheVariants.{Seq}
 use Rattle.tmem_tree.specs.declared.tx.Tx.TheBlock.{items-the_row-Tx}
 use Rattle.tmem_tree.specs.declared.tx.Tx.TheViews.{the_lemmas}
 use Rattle.tmem_tree.specs.Limits.{depth, depth_of_all, choices, choices_of_all, one_if, count, count_all}
-pub use Rattle.tmem_tree.proofs.Fewer.{has_shapes}
+pub use Rattle.tmem_tree.proofs.Fewer.{has_signatures}
 pub use Rattle.tmem_tree.proofs.Found.{footprint_in-AreMeant, AreBelow-footprint_in}
 
 -- how deep the deepest of these is, how many of its choices may stand in their first branch at once, and how many nodes of

@@ -1,9 +1,9 @@
 pub mod StepAnswers
-pub mod ChosenSteps
+pub mod JoinedSteps
 pub mod Footprints
 pub mod Limits
 pub mod Plans
 pub mod Numbers
 pub mod Run
-pub mod Shapes
+pub mod Signatures
 pub mod Visited

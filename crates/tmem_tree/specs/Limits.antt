@@ -110,9 +110,9 @@ has_unknown_name names (Retire name) = not (has_name names name)
 has_unknown_name names _ = false
 
 -- it checks a name that is none of these
-abbrev pub lacks_shape : List (List ℕ) → Tx → Bool
-lacks_shape names (Check name) = not (has_name names name)
-lacks_shape names _ = false
+abbrev pub lacks_signature : List (List ℕ) → Tx → Bool
+lacks_signature names (Check name) = not (has_name names name)
+lacks_signature names _ = false
 
 -- some node of it checks this name
 abbrev pub Checks : Tx → List ℕ → Type 0

@@ -5,9 +5,9 @@ use Rattle.tmem_fault.specs.declared.fault.Cause.TheVariants.{TooDeep, TooManyNo
 use Rattle.tmem_fault.specs.Fault.{cause_number}
 use Rattle.tmem_tree.specs.declared.tx.Tx.{Tx}
 use Rattle.tmem_invariants.specs.Meanings.{Meanings}
-use Rattle.tmem_tree.specs.declared.shape.Shape.{Shape}
-use Rattle.tmem_tree.specs.Shapes.{AreMeant, AreWithin, names_of}
-use Rattle.tmem_tree.specs.Limits.{depth, choices, count, is_node, is_write, is_check, is_retire, is_step, has_bad_register, has_bad_variable, has_bad_step, has_bad_arguments, has_unknown_name, lacks_shape}
+use Rattle.tmem_tree.specs.declared.signature.Signature.{Signature}
+use Rattle.tmem_tree.specs.Signatures.{AreMeant, AreWithin, names_of}
+use Rattle.tmem_tree.specs.Limits.{depth, choices, count, is_node, is_write, is_check, is_retire, is_step, has_bad_register, has_bad_variable, has_bad_step, has_bad_arguments, has_unknown_name, lacks_signature}
 
 -- the nodes that a limit counts
 abbrev pub is_counted : Cause → List ℕ → ℕ → List (List ℕ) → Tx → Bool
@@ -67,33 +67,33 @@ pub record FitsSteps (arities : List ℕ) (tx : Tx) : Type 0 where
 -- what contracts see of a plan: its tree, and the footprints of the invariants that it checks
 pub record PlanView : Type 0 where
   pub tree : Tx
-  pub shapes : List Shape
+  pub signatures : List Signature
 
 -- each variable that it names, and each of a footprint, is one of so many
 pub record FitsVariables (vars : ℕ) (plan : PlanView) : Type 0 where
   pub named : count (has_bad_variable vars) plan.tree ≡ 0
-  pub footprints : AreWithin vars plan.shapes
+  pub footprints : AreWithin vars plan.signatures
 
 -- the footprints are those that are meant
-abbrev pub FitsShapes : Meanings → PlanView → Type 0
-FitsShapes tests plan = AreMeant tests plan.shapes
+abbrev pub FitsSignatures : Meanings → PlanView → Type 0
+FitsSignatures tests plan = AreMeant tests plan.signatures
 
 -- each name that it checks or retires is one of these
 abbrev pub FitsNames : List (List ℕ) → Tx → Type 0
 FitsNames names tx = count (has_unknown_name names) tx ≡ 0
 
--- each name that it checks has a shape, of shapes of these names
-abbrev pub HasShapes : List (List ℕ) → Tx → Type 0
-HasShapes names tx = count (lacks_shape names) tx ≡ 0
+-- each name that it checks has a signature, of signatures of these names
+abbrev pub HasSignatures : List (List ℕ) → Tx → Type 0
+HasSignatures names tx = count (lacks_signature names) tx ≡ 0
 
 -- it has at most 64 nodes, of which at most 8 call a stored step
 abbrev pub IsShortTx : Tx → Type 0
 IsShortTx tx = (count is_step tx ≤ 8) × (count is_node tx ≤ 64)
 
--- what a plan keeps beside its tree is so: the shapes of the invariants that it checks, how many of its choices may stand in their
+-- what a plan keeps beside its tree is so: the signatures of the invariants that it checks, how many of its choices may stand in their
 -- first branch at once, and whether it is short
-pub record IsPlan (tx : Tx) (shapes : List Shape) (open_choices : ℕ) (is_short : Bool) : Type 0 where
+pub record IsPlan (tx : Tx) (signatures : List Signature) (open_choices : ℕ) (is_short : Bool) : Type 0 where
   pub limits : IsWithinLimits tx
-  pub shaped : HasShapes (names_of shapes) tx
+  pub covered : HasSignatures (names_of signatures) tx
   pub choices : open_choices ≡ choices tx
   pub short : IsTrue is_short ↔ IsShortTx tx

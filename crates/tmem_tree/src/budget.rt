@@ -3,10 +3,10 @@
 ghost use Rattle.std.specs.Prelude.{◌≡◌, ◌+◌, ◌≤◌, IfSome, IsNone};
 ghost use Rattle.tmem_tree.specs.Limits.{one_if, depth, count, is_node, is_write, is_check, is_retire, is_step};
 ghost use Rattle.tmem_tree.specs.Plans.{is_bad};
-ghost use Rattle.tmem_tree.specs.Shapes.{names_of};
+ghost use Rattle.tmem_tree.specs.Signatures.{names_of};
 
 use crate::limits::{MAX_NODES, MAX_WRITES, has_bad_part};
-use crate::shape::Shape;
+use crate::signature::Signature;
 use crate::steps::StoredSteps;
 use crate::tx::Tx;
 use tmem_effect::{MAX_CHECKS, MAX_RETIRES};
@@ -36,7 +36,7 @@ pub(crate) fn pay<S: StoredSteps>(
     tx: &Tx,
     steps: &S,
     vars: u16,
-    shapes: &[Shape],
+    signatures: &[Signature],
     most: u32,
     budget: Budget,
 ) -> Option<Budget>
@@ -46,28 +46,28 @@ pub(crate) fn pay<S: StoredSteps>(
     ensures checks { IfSome result (λ left. left.checks + count is_check tx.now ≡ budget.checks) }
     ensures retires { IfSome result (λ left. left.retires + count is_retire tx.now ≡ budget.retires) }
     ensures steps { IfSome result (λ left. left.steps + count is_step tx.now ≡ budget.steps) }
-    ensures good { IfSome result (λ left. count (is_bad (S.arities steps.now) vars (names_of shapes.now)) tx.now ≡ 0) }
+    ensures good { IfSome result (λ left. count (is_bad (S.arities steps.now) vars (names_of signatures.now)) tx.now ≡ 0) }
     ensures lacking { IsNone result → depth tx.now ≤ most → count is_node tx.now ≤ budget.nodes → count is_write tx.now ≤ budget.writes
-        → count is_check tx.now ≤ budget.checks → count is_retire tx.now ≤ budget.retires → count is_step tx.now ≤ budget.steps → count (is_bad (S.arities steps.now) vars (names_of shapes.now)) tx.now ≡ 0 → ⊥ }
+        → count is_check tx.now ≤ budget.checks → count is_retire tx.now ≤ budget.retires → count is_step tx.now ≤ budget.steps → count (is_bad (S.arities steps.now) vars (names_of signatures.now)) tx.now ≡ 0 → ⊥ }
 {
-    if most == 0 || has_bad_part(tx, steps, vars, shapes) {
+    if most == 0 || has_bad_part(tx, steps, vars, signatures) {
         return None;
     }
     let mut left = without(tx, budget)?;
     match tx {
         Tx::Seq(txs) => {
             for t in txs {
-                left = pay(t, steps, vars, shapes, most - 1, left)?;
+                left = pay(t, steps, vars, signatures, most - 1, left)?;
             }
             Some(left)
         }
         Tx::When { then, other, .. } => {
-            let left = pay(then, steps, vars, shapes, most - 1, left)?;
-            pay(other, steps, vars, shapes, most - 1, left)
+            let left = pay(then, steps, vars, signatures, most - 1, left)?;
+            pay(other, steps, vars, signatures, most - 1, left)
         }
         Tx::OrElse(first, second) => {
-            let left = pay(first, steps, vars, shapes, most - 1, left)?;
-            pay(second, steps, vars, shapes, most - 1, left)
+            let left = pay(first, steps, vars, signatures, most - 1, left)?;
+            pay(second, steps, vars, signatures, most - 1, left)
         }
         _ => Some(left),
     }

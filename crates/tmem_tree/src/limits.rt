@@ -4,9 +4,9 @@ ghost use Rattle.std.specs.Prelude.{◌≡◌, ℕ, ◌+◌, ◌-◌, ◌≤◌,
 ghost use Rattle.std.specs.List.{list_any};
 ghost use Rattle.tmem_tree.specs.Limits.{depth, count, is_no_register, has_bad_register, has_bad_variable, has_bad_step, has_bad_arguments, has_unknown_name};
 ghost use Rattle.tmem_tree.specs.Plans.{is_bad, is_counted};
-ghost use Rattle.tmem_tree.specs.Shapes.{names_of};
+ghost use Rattle.tmem_tree.specs.Signatures.{names_of};
 
-use crate::shape::{Shape, find};
+use crate::signature::{Signature, find};
 use crate::steps::StoredSteps;
 use crate::tx::Tx;
 use tmem_effect::MAX_CHECKS;
@@ -61,38 +61,44 @@ pub(crate) fn spend<S: StoredSteps>(
     cause: Cause,
     steps: &S,
     vars: u16,
-    shapes: &[Shape],
+    signatures: &[Signature],
     budget: u32,
 ) -> Option<u32>
-    ensures enough { IfSome result (λ left. left + count (is_counted cause (S.arities steps.now) vars (names_of shapes.now)) tx.now ≡ budget) }
-    ensures lacking { IsNone result → budget < count (is_counted cause (S.arities steps.now) vars (names_of shapes.now)) tx.now }
+    ensures enough { IfSome result (λ left. left + count (is_counted cause (S.arities steps.now) vars (names_of signatures.now)) tx.now ≡ budget) }
+    ensures lacking { IsNone result → budget < count (is_counted cause (S.arities steps.now) vars (names_of signatures.now)) tx.now }
 {
     let mut left = budget;
-    if is_counted(tx, cause, steps, vars, shapes) {
+    if is_counted(tx, cause, steps, vars, signatures) {
         left = left.checked_sub(1)?;
     }
     match tx {
         Tx::Seq(txs) => {
             for t in txs {
-                left = spend(t, cause, steps, vars, shapes, left)?;
+                left = spend(t, cause, steps, vars, signatures, left)?;
             }
             Some(left)
         }
         Tx::When { then, other, .. } => {
-            let left = spend(then, cause, steps, vars, shapes, left)?;
-            spend(other, cause, steps, vars, shapes, left)
+            let left = spend(then, cause, steps, vars, signatures, left)?;
+            spend(other, cause, steps, vars, signatures, left)
         }
         Tx::OrElse(first, second) => {
-            let left = spend(first, cause, steps, vars, shapes, left)?;
-            spend(second, cause, steps, vars, shapes, left)
+            let left = spend(first, cause, steps, vars, signatures, left)?;
+            spend(second, cause, steps, vars, signatures, left)
         }
         _ => Some(left),
     }
 }
 
 // Whether a limit counts this node.
-fn is_counted<S: StoredSteps>(tx: &Tx, cause: Cause, steps: &S, vars: u16, shapes: &[Shape]) -> bool
-    ensures { result ≡ is_counted cause (S.arities steps.now) vars (names_of shapes.now) tx.now }
+fn is_counted<S: StoredSteps>(
+    tx: &Tx,
+    cause: Cause,
+    steps: &S,
+    vars: u16,
+    signatures: &[Signature],
+) -> bool
+    ensures { result ≡ is_counted cause (S.arities steps.now) vars (names_of signatures.now) tx.now }
 {
     match cause {
         Cause::TooDeep => false,
@@ -103,21 +109,26 @@ fn is_counted<S: StoredSteps>(tx: &Tx, cause: Cause, steps: &S, vars: u16, shape
         Cause::BadVariable => has_bad_variable(tx, vars),
         Cause::BadStep => has_bad_step(tx, steps),
         Cause::BadArguments => has_bad_arguments(tx, steps),
-        Cause::UnknownName => has_unknown_name(tx, shapes),
+        Cause::UnknownName => has_unknown_name(tx, signatures),
         Cause::TooManyRetires => matches!(tx, Tx::Retire { .. }),
     }
 }
 
 /// Whether a node names a register, a variable, a step or a name that is not there, or hands a step another number of
 /// arguments than it takes.
-pub(crate) fn has_bad_part<S: StoredSteps>(tx: &Tx, steps: &S, vars: u16, shapes: &[Shape]) -> bool
-    ensures { result ≡ is_bad (S.arities steps.now) vars (names_of shapes.now) tx.now }
+pub(crate) fn has_bad_part<S: StoredSteps>(
+    tx: &Tx,
+    steps: &S,
+    vars: u16,
+    signatures: &[Signature],
+) -> bool
+    ensures { result ≡ is_bad (S.arities steps.now) vars (names_of signatures.now) tx.now }
 {
     has_bad_register(tx)
         || has_bad_variable(tx, vars)
         || has_bad_step(tx, steps)
         || has_bad_arguments(tx, steps)
-        || has_unknown_name(tx, shapes)
+        || has_unknown_name(tx, signatures)
 }
 
 fn has_bad_register(tx: &Tx) -> bool
@@ -168,11 +179,11 @@ fn has_bad_arguments<S: StoredSteps>(tx: &Tx, steps: &S) -> bool
     }
 }
 
-fn has_unknown_name(tx: &Tx, shapes: &[Shape]) -> bool
-    ensures { result ≡ has_unknown_name (names_of shapes.now) tx.now }
+fn has_unknown_name(tx: &Tx, signatures: &[Signature]) -> bool
+    ensures { result ≡ has_unknown_name (names_of signatures.now) tx.now }
 {
     match tx {
-        Tx::Check { name } | Tx::Retire { name } => find(shapes, name).is_none(),
+        Tx::Check { name } | Tx::Retire { name } => find(signatures, name).is_none(),
         _ => false,
     }
 }

@@ -90,7 +90,7 @@ impl StoredSteps for Steps {
     ghost small = { λ steps. All-map (λ n. n ≤ 4) (λ entry. entry.arity) steps.entries.items (λ k d below. (get_or steps.entries.items k d).few) };
 
     ghost use Rattle.tmem_tree.specs.declared.step.StepAnswer.TheVariants.{Retry};
-    ghost use Rattle.tmem_tree.specs.ChosenSteps.{chosen_steps};
+    ghost use Rattle.tmem_tree.specs.JoinedSteps.{joined_steps};
 
-    ghost has_meanings = { λ steps. chosen_steps _ (λ _. Retry) (λ entry. entry.stated) steps.entries.items };
+    ghost has_meanings = { λ steps. joined_steps _ (λ _. Retry) (λ entry. entry.stated) steps.entries.items };
 }

@@ -46,9 +46,9 @@ module _ {D T S : Type 0} {d t s : _} (program : Program) (w w' : World D T S d 
 
   -- the point of the run after an event, by the clauses of a step
   pub steps : (e : Event) (x : Reply) → Means w program → IsStep w e x w' → Reopens w e x w' → (m' : WorldModel) × AllowsOnAnyDevice (setting_of w program) m e x m' × Represents program w' m'
-  steps (event.Begin slot tx) x stated it again = it program stated m r tt
-  steps (event.Turn slot) x stated it again = it program stated m r tt
-  steps (event.Settle slot) x stated it again = it program stated m r tt
+  steps (event.Begin attempt tx) x stated it again = it program stated m r tt
+  steps (event.Turn attempt) x stated it again = it program stated m r tt
+  steps (event.Settle attempt) x stated it again = it program stated m r tt
   steps event.Flush x stated it again = it program stated m r tt
   steps event.Checkpoint x stated it again = it program stated m r tt
   steps event.Look x stated it again = it program stated m r tt

@@ -9,8 +9,8 @@ use Rattle.tmem_effect.specs.Names.{has_name, AreApart}
 use Rattle.tmem_effect.specs.declared.effect.Effect.{Effect}
 use Rattle.tmem_fault.specs.declared.fault.Fault.TheVariants.{Memory}
 use Rattle.tmem_invariants.specs.Meanings.{Meanings}
-use Rattle.tmem_tree.specs.Plans.{PlanView, FitsSteps, FitsVariables, FitsNames, FitsShapes}
-use Rattle.tmem_tree.specs.Shapes.{AreMeant, names_of}
+use Rattle.tmem_tree.specs.Plans.{PlanView, FitsSteps, FitsVariables, FitsNames, FitsSignatures}
+use Rattle.tmem_tree.specs.Signatures.{AreMeant, names_of}
 use Rattle.tmem_tree.specs.declared.tx.Tx.{Tx}
 use Rattle.tmem_tree.specs.declared.settled.Settled.{Settled}
 use Rattle.tmem_tree.specs.StepAnswers.{StepMeanings}
@@ -86,7 +86,7 @@ module _ (vars : ℕ) (arities : List ℕ) (stated : StepMeanings → Type 0) (n
     variables = fits.variables;
     steps = fits.steps;
     names = fits.names;
-    shapes = fits.shapes;
+    signatures = fits.signatures;
     stands = λ m is. stays m plan (fits.stands m is);
     ended = λ ended. attempt_again old new same (fits.ended (sym same.stage ∙ ended));
   }
@@ -96,14 +96,14 @@ module _ (vars : ℕ) (arities : List ℕ) (stated : StepMeanings → Type 0) (n
   fits_again old new plan same stays fits = subst (λ (o : Option PlanView). FitsOption vars arities stated names tested o new.cursor) (sym plan) (option_fits_again old.plan old.cursor new.cursor same stays fits)
 
   -- an attempt where a plan was to begin
-  pub begun_fits : (plan : PlanView) (old new : WorldAttempt) (answer : Result (Unit {0}) Fault) → FitsVariables vars plan → FitsSteps arities plan.tree → FitsNames names plan.tree → ((tests : Meanings) → tested tests → FitsShapes tests plan)
+  pub begun_fits : (plan : PlanView) (old new : WorldAttempt) (answer : Result (Unit {0}) Fault) → FitsVariables vars plan → FitsSteps arities plan.tree → FitsNames names plan.tree → ((tests : Meanings) → tested tests → FitsSignatures tests plan)
       → OnOk answer (new.plan ≡ Some plan) → OnOk answer ((m : StepMeanings) → StandsIn m plan new.cursor) → OnOk answer (¬ HasEnded new.cursor)
       → IfErr answer (λ (f : Fault). (f ≡ Memory) × (new.plan ≡ old.plan) × IsAsBefore old.cursor new.cursor)
       → ((m : StepMeanings) (kept : PlanView) → StandsIn m kept old.cursor → IfErr answer (λ _. StandsIn m kept new.cursor))
       → FitsAttempt vars arities stated names tested old → FitsAttempt vars arities stated names tested new
-  begun_fits plan old new (Ok done) variables steps known shapes held stands going same stays fits =
-      with_plan_fits new plan held (record { variables = variables; steps = steps; names = known; shapes = shapes; stands = λ m is. stands m; ended = λ ended. absurd (going ended) })
-  begun_fits plan old new (Err f) variables steps known shapes held stands going same stays fits = fits_again old new same.1 same.2 stays fits
+  begun_fits plan old new (Ok done) variables steps known signatures held stands going same stays fits =
+      with_plan_fits new plan held (record { variables = variables; steps = steps; names = known; signatures = signatures; stands = λ m is. stands m; ended = λ ended. absurd (going ended) })
+  begun_fits plan old new (Err f) variables steps known signatures held stands going same stays fits = fits_again old new same.1 same.2 stays fits
 
   -- an attempt that was settled
   pub settles_fit : {D T : Type 0} {d t : _} (o o' : core.CoreAndJournal D T d t) (s after : WorldAttempt) (r : Reply) → SettlesAttempt o s r o' after → FitsAttempt vars arities stated names tested s → FitsAttempt vars arities stated names tested after
@@ -132,7 +132,7 @@ module _ (vars : ℕ) (arities : List ℕ) (stated : StepMeanings → Type 0) (n
     variables = fits.variables;
     steps = fits.steps;
     names = fits.names;
-    shapes = λ tests is. fits.shapes tests (among tests is);
+    signatures = λ tests is. fits.signatures tests (among tests is);
     stands = fits.stands;
     ended = fits.ended;
   }
@@ -145,42 +145,42 @@ module _ {D T S : Type 0} {d t s : _} (w : World D T S d t s) where
   slot_within k below = omega (arith, below, w.sized, w.attempts.ok.0)
 
   -- what the attempt of a number holds is for the store
-  pub slot_fits : (k : ℕ) (x : WorldAttempt) → k < 16 → x ≡ get_or w.attempts.items k x → FitsAttempt w.layout.vars (s.arities w.steps) (s.is_stated w.steps) (names_of w.shapes.items) (λ tests. AreMeant tests w.shapes.items) x
-  slot_fits k x below is = subst (FitsAttempt w.layout.vars (s.arities w.steps) (s.is_stated w.steps) (names_of w.shapes.items) (λ tests. AreMeant tests w.shapes.items)) (sym is) (w.fit k x (slot_there k below))
+  pub slot_fits : (k : ℕ) (x : WorldAttempt) → k < 16 → x ≡ get_or w.attempts.items k x → FitsAttempt w.layout.vars (s.arities w.steps) (s.is_stated w.steps) (names_of w.signatures.items) (λ tests. AreMeant tests w.signatures.items) x
+  slot_fits k x below is = subst (FitsAttempt w.layout.vars (s.arities w.steps) (s.is_stated w.steps) (names_of w.signatures.items) (λ tests. AreMeant tests w.signatures.items)) (sym is) (w.fit k x (slot_there k below))
 
 module _ {D T S : Type 0} {d t s : _} (w : World D T S d t s) (o : core.CoreAndJournal D T d t) (here : held_of w ≡ With o) where
   vars_here : (length (core_state o.core).values) ≡ w.layout.vars
   vars_here = o.over ∙ sym (ap (λ (h : Held D T d t). (layout_in h).vars) here) ∙ w.same_vars
 
-  names_here : names_of w.shapes.items ≡ t.names (core_table o.core)
+  names_here : names_of w.signatures.items ≡ t.names (core_table o.core)
   names_here = w.named ∙ ap (λ (h : Held D T d t). t.names (table_in h)) here
 
-  meant_here : (tests : Meanings) → t.is_stated (core_table o.core) tests → AreMeant tests w.shapes.items
+  meant_here : (tests : Meanings) → t.is_stated (core_table o.core) tests → AreMeant tests w.signatures.items
   meant_here tests is = w.meant tests (subst (λ (h : Held D T d t). t.is_stated (table_in h) tests) (sym here) is)
 
   -- what an attempt holds is for the core's variables where it is for the world's
-  fits_core : (x : WorldAttempt) → FitsAttempt w.layout.vars (s.arities w.steps) (s.is_stated w.steps) (names_of w.shapes.items) (λ tests. AreMeant tests w.shapes.items) x
-      → FitsAttempt (length (core_state o.core).values) (s.arities w.steps) (s.is_stated w.steps) (names_of w.shapes.items) (λ tests. AreMeant tests w.shapes.items) x
-  fits_core x fits = subst (λ (vars : ℕ). FitsAttempt vars (s.arities w.steps) (s.is_stated w.steps) (names_of w.shapes.items) (λ tests. AreMeant tests w.shapes.items) x) (sym vars_here) fits
+  fits_core : (x : WorldAttempt) → FitsAttempt w.layout.vars (s.arities w.steps) (s.is_stated w.steps) (names_of w.signatures.items) (λ tests. AreMeant tests w.signatures.items) x
+      → FitsAttempt (length (core_state o.core).values) (s.arities w.steps) (s.is_stated w.steps) (names_of w.signatures.items) (λ tests. AreMeant tests w.signatures.items) x
+  fits_core x fits = subst (λ (vars : ℕ). FitsAttempt vars (s.arities w.steps) (s.is_stated w.steps) (names_of w.signatures.items) (λ tests. AreMeant tests w.signatures.items) x) (sym vars_here) fits
 
   -- and the other way round
-  fits_world : (x : WorldAttempt) → FitsAttempt (length (core_state o.core).values) (s.arities w.steps) (s.is_stated w.steps) (names_of w.shapes.items) (λ tests. AreMeant tests w.shapes.items) x
-      → FitsAttempt w.layout.vars (s.arities w.steps) (s.is_stated w.steps) (names_of w.shapes.items) (λ tests. AreMeant tests w.shapes.items) x
-  fits_world x fits = subst (λ (vars : ℕ). FitsAttempt vars (s.arities w.steps) (s.is_stated w.steps) (names_of w.shapes.items) (λ tests. AreMeant tests w.shapes.items) x) vars_here fits
+  fits_world : (x : WorldAttempt) → FitsAttempt (length (core_state o.core).values) (s.arities w.steps) (s.is_stated w.steps) (names_of w.signatures.items) (λ tests. AreMeant tests w.signatures.items) x
+      → FitsAttempt w.layout.vars (s.arities w.steps) (s.is_stated w.steps) (names_of w.signatures.items) (λ tests. AreMeant tests w.signatures.items) x
+  fits_world x fits = subst (λ (vars : ℕ). FitsAttempt vars (s.arities w.steps) (s.is_stated w.steps) (names_of w.signatures.items) (λ tests. AreMeant tests w.signatures.items) x) vars_here fits
 
   -- and so after a call that keeps it for the core
-  pub fits_after : (x y : WorldAttempt) → FitsAttempt w.layout.vars (s.arities w.steps) (s.is_stated w.steps) (names_of w.shapes.items) (λ tests. AreMeant tests w.shapes.items) x
-      → (FitsAttempt (length (core_state o.core).values) (s.arities w.steps) (s.is_stated w.steps) (names_of w.shapes.items) (λ tests. AreMeant tests w.shapes.items) x
-      → FitsAttempt (length (core_state o.core).values) (s.arities w.steps) (s.is_stated w.steps) (names_of w.shapes.items) (λ tests. AreMeant tests w.shapes.items) y)
-      → FitsAttempt w.layout.vars (s.arities w.steps) (s.is_stated w.steps) (names_of w.shapes.items) (λ tests. AreMeant tests w.shapes.items) y
+  pub fits_after : (x y : WorldAttempt) → FitsAttempt w.layout.vars (s.arities w.steps) (s.is_stated w.steps) (names_of w.signatures.items) (λ tests. AreMeant tests w.signatures.items) x
+      → (FitsAttempt (length (core_state o.core).values) (s.arities w.steps) (s.is_stated w.steps) (names_of w.signatures.items) (λ tests. AreMeant tests w.signatures.items) x
+      → FitsAttempt (length (core_state o.core).values) (s.arities w.steps) (s.is_stated w.steps) (names_of w.signatures.items) (λ tests. AreMeant tests w.signatures.items) y)
+      → FitsAttempt w.layout.vars (s.arities w.steps) (s.is_stated w.steps) (names_of w.signatures.items) (λ tests. AreMeant tests w.signatures.items) y
   fits_after x y fits keeps = fits_world y (keeps (fits_core x fits))
 
   -- it is for the names of the core's table too, and for what these are stated to mean
-  pub fits_table : (x : WorldAttempt) → FitsAttempt w.layout.vars (s.arities w.steps) (s.is_stated w.steps) (names_of w.shapes.items) (λ tests. AreMeant tests w.shapes.items) x
+  pub fits_table : (x : WorldAttempt) → FitsAttempt w.layout.vars (s.arities w.steps) (s.is_stated w.steps) (names_of w.signatures.items) (λ tests. AreMeant tests w.signatures.items) x
       → FitsAttempt (length (core_state o.core).values) (s.arities w.steps) (s.is_stated w.steps) (t.names (core_table o.core)) (t.is_stated (core_table o.core)) x
   fits_table x fits =
       subst (λ (names : List (List ℕ)). FitsAttempt (length (core_state o.core).values) (s.arities w.steps) (s.is_stated w.steps) names (t.is_stated (core_table o.core)) x) names_here
-      (option_for_fewer (length (core_state o.core).values) (s.arities w.steps) (s.is_stated w.steps) (names_of w.shapes.items) (λ tests. AreMeant tests w.shapes.items) (t.is_stated (core_table o.core)) meant_here x.plan x.cursor (fits_core x fits))
+      (option_for_fewer (length (core_state o.core).values) (s.arities w.steps) (s.is_stated w.steps) (names_of w.signatures.items) (λ tests. AreMeant tests w.signatures.items) (t.is_stated (core_table o.core)) meant_here x.plan x.cursor (fits_core x fits))
 
 -- an attempt holds what it held where no plan was begun for want of memory
 pub held_again : (program : Program) (a : AttemptModel) (old new : WorldAttempt) → new.plan ≡ old.plan → IsAsBefore old.cursor new.cursor → StaysAt old.cursor new.cursor → AttemptIs program old a → AttemptIs program new a

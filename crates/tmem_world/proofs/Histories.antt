@@ -51,21 +51,21 @@ module _ (m : WorldModel) (e : Event) where
   with_core _ r m' allowed same then is = then is
 
 module _ (m : WorldModel) where
-  begins : (set : Setting) (slot : ℕ) (tx : Tx) (r : Reply) (m' : WorldModel) → AllowsBegin set m slot tx r m' → Moves m (event.Begin slot tx) r m'
-  begins set slot tx reply.Begun m' is = stays m _ reply.Begun m' _ is.1 (λ txs. refl) refl refl (omega arith) (omega arith)
-  begins set slot tx (reply.Fault f) m' is = stays m _ (reply.Fault f) m' m is.1 (λ txs. refl) refl refl (omega arith) (omega arith)
-  begins set slot tx _ m' is = absurd is
+  begins : (set : Setting) (attempt : ℕ) (tx : Tx) (r : Reply) (m' : WorldModel) → AllowsBegin set m attempt tx r m' → Moves m (event.Begin attempt tx) r m'
+  begins set attempt tx reply.Begun m' is = stays m _ reply.Begun m' _ is.1 (λ txs. refl) refl refl (omega arith) (omega arith)
+  begins set attempt tx (reply.Fault f) m' is = stays m _ (reply.Fault f) m' m is.1 (λ txs. refl) refl refl (omega arith) (omega arith)
+  begins set attempt tx _ m' is = absurd is
 
-  goes : (next : Option Ask) (program : Program) (slot : ℕ) (plan : Tx) (reads : List (ℕ × ℤ)) (answered : ℕ) → Moves m (event.Turn slot) (goes_on next program m slot plan reads answered).0 (goes_on next program m slot plan reads answered).1
-  goes (Some (Visit var)) program slot plan reads answered = stays m _ _ _ _ refl (λ txs. refl) refl refl (omega arith) (omega arith)
-  goes (Some (Probe name values)) program slot plan reads answered = stays m _ _ _ _ refl (λ txs. refl) refl refl (omega arith) (omega arith)
-  goes None program slot plan reads answered = stays m _ _ _ _ refl (λ txs. refl) refl refl (omega arith) (omega arith)
+  goes : (next : Option Ask) (program : Program) (attempt : ℕ) (plan : Tx) (reads : List (ℕ × ℤ)) (answered : ℕ) → Moves m (event.Turn attempt) (goes_on next program m attempt plan reads answered).0 (goes_on next program m attempt plan reads answered).1
+  goes (Some (Visit var)) program attempt plan reads answered = stays m _ _ _ _ refl (λ txs. refl) refl refl (omega arith) (omega arith)
+  goes (Some (Probe name values)) program attempt plan reads answered = stays m _ _ _ _ refl (λ txs. refl) refl refl (omega arith) (omega arith)
+  goes None program attempt plan reads answered = stays m _ _ _ _ refl (λ txs. refl) refl refl (omega arith) (omega arith)
 
-  turns : (program : Program) (a : AttemptModel) (slot : ℕ) (r : Reply) (m' : WorldModel) → AllowsTurn program a m slot r m' → Moves m (event.Turn slot) r m'
-  turns program NoTransaction slot r m' is = unmoved m _ r reply.Idle m' (λ txs. refl) (omega arith) is
-  turns program (Ended plan reads) slot r m' is = unmoved m _ r reply.Ended m' (λ txs. refl) (omega arith) is
-  turns program (Begun plan reads answered) slot r m' is =
-      ⊎_elim (λ now. subst (λ (x : Reply × WorldModel). Moves m (event.Turn slot) x.0 x.1) (sym now) (goes (open_in program m plan reads answered) program slot plan reads answered)) (unmoved m _ r (reply.Fault fault.Memory) m' (λ txs. refl) (omega arith)) is
+  turns : (program : Program) (a : AttemptModel) (attempt : ℕ) (r : Reply) (m' : WorldModel) → AllowsTurn program a m attempt r m' → Moves m (event.Turn attempt) r m'
+  turns program NoTransaction attempt r m' is = unmoved m _ r reply.Idle m' (λ txs. refl) (omega arith) is
+  turns program (Ended plan reads) attempt r m' is = unmoved m _ r reply.Ended m' (λ txs. refl) (omega arith) is
+  turns program (Begun plan reads answered) attempt r m' is =
+      ⊎_elim (λ now. subst (λ (x : Reply × WorldModel). Moves m (event.Turn attempt) x.0 x.1) (sym now) (goes (open_in program m plan reads answered) program attempt plan reads answered)) (unmoved m _ r (reply.Fault fault.Memory) m' (λ txs. refl) (omega arith)) is
 
   -- what holds of both holds of the one that is chosen
   chosen : (b : Bool) (P Q R : Type 0) → (P → R) → (Q → R) → MatchBool b P Q → R
@@ -98,19 +98,19 @@ module _ (m : WorldModel) where
   checkpoints _ r m' is = unmoved m _ r (reply.Fault fault.Closed) m' (λ txs. refl) (omega arith) is
 
   -- a plan that has ended is settled
-  settles_ended : (slot : ℕ) (plan : Tx) (reads : List (ℕ × ℤ)) → attempt_at m slot ≡ Ended plan reads → (x : Result Settled Fault) → Moves m (event.Settle slot) (reply_of x) (settled_by x m slot plan)
-  settles_ended slot plan reads here (Ok (Committed number registers)) = record {
+  settles_ended : (attempt : ℕ) (plan : Tx) (reads : List (ℕ × ℤ)) → attempt_at m attempt ≡ Ended plan reads → (x : Result Settled Fault) → Moves m (event.Settle attempt) (reply_of x) (settled_by x m attempt plan)
+  settles_ended attempt plan reads here (Ok (Committed number registers)) = record {
     opened = refl;
     committed = λ found count. ap (λ (a : AttemptModel). (found ++ m.committed) ++ ended_plan a) here ∙ append_assoc found m.committed (plan ∷ []);
     acknowledged = omega arith;
     durable = omega arith;
   }
-  settles_ended slot plan reads here (Ok _) = stays m _ _ _ _ refl (λ txs. refl) refl refl (omega arith) (omega arith)
-  settles_ended slot plan reads here (Err f) = stays m _ _ _ _ refl (λ txs. refl) refl refl (omega arith) (omega arith)
+  settles_ended attempt plan reads here (Ok _) = stays m _ _ _ _ refl (λ txs. refl) refl refl (omega arith) (omega arith)
+  settles_ended attempt plan reads here (Err f) = stays m _ _ _ _ refl (λ txs. refl) refl refl (omega arith) (omega arith)
 
-  settles : (program : Program) (slot : ℕ) (a : AttemptModel) → attempt_at m slot ≡ a → Moves m (event.Settle slot) (settle_result program a m slot).0 (settle_result program a m slot).1
-  settles program slot (Ended plan reads) here = settles_ended slot plan reads here (judged (is_closed m.status) (present program m) m.durable reads (verdict program plan (present program m)))
-  settles program slot _ here = stays m _ _ _ _ refl (λ txs. refl) refl refl (omega arith) (omega arith)
+  settles : (program : Program) (attempt : ℕ) (a : AttemptModel) → attempt_at m attempt ≡ a → Moves m (event.Settle attempt) (settle_result program a m attempt).0 (settle_result program a m attempt).1
+  settles program attempt (Ended plan reads) here = settles_ended attempt plan reads here (judged (is_closed m.status) (present program m) m.durable reads (verdict program plan (present program m)))
+  settles program attempt _ here = stays m _ _ _ _ refl (λ txs. refl) refl refl (omega arith) (omega arith)
 
   reopens : (set : Setting) → IsNumbered set.program m → (r : Reply) (m' : WorldModel) → AllowsReopen set m r m' → Moves m event.Reopen r m'
   reopens set numbers (reply.Opened n) m' is =
@@ -128,10 +128,10 @@ module _ (m : WorldModel) where
 
 -- so it is of each event
 pub moves : (set : Setting) (m : WorldModel) → IsNumbered set.program m → (e : Event) (r : Reply) (m' : WorldModel) → Allows set m e r m' → Moves m e r m'
-moves set m numbers (event.Begin slot tx) r m' is = with_core m _ m.status r m' _ (λ txs. refl) (begins m set slot tx r m') is
-moves set m numbers (event.Turn slot) r m' is = with_core m _ m.status r m' _ (λ txs. refl) (turns m set.program (attempt_at m slot) slot r m') is
-moves set m numbers (event.Settle slot) r m' is =
-    with_core m _ m.status r m' _ (λ txs. refl) (λ (so : (r, m') ≡ settle_result set.program (attempt_at m slot) m slot). subst (λ (x : Reply × WorldModel). Moves m (event.Settle slot) x.0 x.1) (sym so) (settles m set.program slot (attempt_at m slot) refl)) is
+moves set m numbers (event.Begin attempt tx) r m' is = with_core m _ m.status r m' _ (λ txs. refl) (begins m set attempt tx r m') is
+moves set m numbers (event.Turn attempt) r m' is = with_core m _ m.status r m' _ (λ txs. refl) (turns m set.program (attempt_at m attempt) attempt r m') is
+moves set m numbers (event.Settle attempt) r m' is =
+    with_core m _ m.status r m' _ (λ txs. refl) (λ (so : (r, m') ≡ settle_result set.program (attempt_at m attempt) m attempt). subst (λ (x : Reply × WorldModel). Moves m (event.Settle attempt) x.0 x.1) (sym so) (settles m set.program attempt (attempt_at m attempt) refl)) is
 moves set m numbers event.Flush r m' is = with_core m _ m.status r m' _ (λ txs. refl) (flushes m set.program set.slots m.status r m') is
 moves set m numbers event.Checkpoint r m' is = with_core m _ m.status r m' _ (λ txs. refl) (checkpoints m m.status r m') is
 moves set m numbers event.Look r m' is = with_core m _ m.status r m' _ (λ txs. refl) (unmoved m _ r (reply.Looked m.durable) m' (λ txs. refl) (omega arith)) is

@@ -249,16 +249,16 @@ attempts_answered {D} {T} {d = d} {t = t} w w' e r layout steps same device step
     still_answered w w' e r layout steps (ap (λ (h : Held D T d t). table_in h) (held_stays w w' same)) (device_stays w w' same) device step again failures which
 
 -- Without a core an event is refused that needs one, and changes nothing.
-pub settles_without : {D T S : Type 0} {d t s : _} (w w' : World D T S d t s) (slot : ℕ) → (IsWith (held_of w) → ⊥) → w'.layout ≡ w.layout → w'.steps ≡ w.steps → w'.held ≡ w.held → w'.attempts.items ≡ w.attempts.items → IsDevice (world_view w)
-    → IsAnswered w (event.Settle slot) (reply.Fault fault.Closed) w'
-settles_without w w' slot none layout steps same attempts device =
-    attempts_answered w w' (event.Settle slot) (reply.Fault fault.Closed) layout steps same device
+pub settles_without : {D T S : Type 0} {d t s : _} (w w' : World D T S d t s) (attempt : ℕ) → (IsWith (held_of w) → ⊥) → w'.layout ≡ w.layout → w'.steps ≡ w.steps → w'.held ≡ w.held → w'.attempts.items ≡ w.attempts.items → IsDevice (world_view w)
+    → IsAnswered w (event.Settle attempt) (reply.Fault fault.Closed) w'
+settles_without w w' attempt none layout steps same attempts device =
+    attempts_answered w w' (event.Settle attempt) (reply.Fault fault.Closed) layout steps same device
     (λ program means m r keeps. (m, no_core program (held_of w) m _ none r.held, same_point w w' same program m r attempts layout)) tt (λ n. refl) tt
 
-pub turns_without : {D T S : Type 0} {d t s : _} (w w' : World D T S d t s) (slot : ℕ) → (IsWith (held_of w) → ⊥) → w'.layout ≡ w.layout → w'.steps ≡ w.steps → w'.held ≡ w.held → w'.attempts.items ≡ w.attempts.items → IsDevice (world_view w)
-    → IsAnswered w (event.Turn slot) (reply.Fault fault.Closed) w'
-turns_without w w' slot none layout steps same attempts device =
-    attempts_answered w w' (event.Turn slot) (reply.Fault fault.Closed) layout steps same device
+pub turns_without : {D T S : Type 0} {d t s : _} (w w' : World D T S d t s) (attempt : ℕ) → (IsWith (held_of w) → ⊥) → w'.layout ≡ w.layout → w'.steps ≡ w.steps → w'.held ≡ w.held → w'.attempts.items ≡ w.attempts.items → IsDevice (world_view w)
+    → IsAnswered w (event.Turn attempt) (reply.Fault fault.Closed) w'
+turns_without w w' attempt none layout steps same attempts device =
+    attempts_answered w w' (event.Turn attempt) (reply.Fault fault.Closed) layout steps same device
     (λ program means m r keeps. (m, no_core program (held_of w) m _ none r.held, same_point w w' same program m r attempts layout)) tt (λ n. refl) tt
 
 pub flushes_without : {D T S : Type 0} {d t s : _} (w w' : World D T S d t s) → (IsWith (held_of w) → ⊥) → w'.layout ≡ w.layout → w'.steps ≡ w.steps → w'.held ≡ w.held → w'.attempts.items ≡ w.attempts.items → IsDevice (world_view w)

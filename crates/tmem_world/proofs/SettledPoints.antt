@@ -17,7 +17,7 @@ use Rattle.tmem_tree.specs.declared.settled.Settled.TheVariants.{Committed}
 use Rattle.tmem_invariants.specs.Meanings.{IsSound}
 use Rattle.tmem_invariants.specs.TableNames.{has_name}
 use Rattle.tmem_core.specs.Held.{CoreView, core_view, core_state, waiting_of, durable_of, is_shut_of, core_table, committing}
-use Rattle.tmem_core.specs.SettleAnswer.{is_stale, allowed, judged}
+use Rattle.tmem_core.specs.SettleAnswer.{has_changed, allowed, judged}
 use Rattle.tmem_core.specs.Verdict.{verdict, committed_of, state_after, serial_state, IsCommitted}
 use Rattle.tmem_core.proofs.Laws.{serial_state-push, AreCommitted-push}
 use Rattle.tmem_event.specs.declared.event.Reply.{Reply}
@@ -46,7 +46,7 @@ allowed-committed _ d n rs is = cc
 
 judged-committed : (shut : Bool) (s : State) (d : ℕ) (reads : List (ℕ × ℤ)) (v : Settled) (n : ℕ) (rs : List ℤ) → Ok (Committed n rs) ≡ judged shut s d reads v → IsCommitted v
 judged-committed true s d reads v n rs is = cc
-judged-committed false s d reads v n rs is = on (is_stale s reads) is where
+judged-committed false s d reads v n rs is = on (has_changed s reads) is where
   on : (b : Bool) → Ok (Committed n rs) ≡ cond b (Err fault.Conflict) (allowed v d) → IsCommitted v
   on true h = cc
   on false h = allowed-committed v d n rs h

@@ -9,9 +9,9 @@ use Rattle.tmem_effect.specs.State.{State}
 use Rattle.tmem_invariants.specs.Meanings.{Meanings}
 use Rattle.tmem_fault.specs.Name.{has_name}
 use Rattle.tmem_tree.specs.declared.tx.Tx.{Tx}
-use Rattle.tmem_tree.specs.declared.shape.Shape.{Shape}
-use Rattle.tmem_tree.specs.Plans.{PlanView, FitsShapes}
-use Rattle.tmem_tree.specs.Shapes.{AreMeant, names_of, footprint_in}
+use Rattle.tmem_tree.specs.declared.signature.Signature.{Signature}
+use Rattle.tmem_tree.specs.Plans.{PlanView, FitsSignatures}
+use Rattle.tmem_tree.specs.Signatures.{AreMeant, names_of, footprint_in}
 use Rattle.tmem_tree.specs.StepAnswers.{StepMeanings}
 use Rattle.tmem_tree.specs.Visited.{Ask, visited}
 use Rattle.tmem_tree.proofs.Laws.{footprint_in-AreMeant}
@@ -38,33 +38,33 @@ overridden-agrees reads values var n is = ap (λ (o : Option ℤ). value_or o (v
 
 -- What a turn finds of a plan that has not ended: this cursor stands where the plan went on, by what the old one was given and
 -- answered.
-module _ (stated : StepMeanings → Type 0) (tested : Meanings → Type 0) (held : Option PlanView) (plan had : PlanView) (is : held ≡ Some plan) (also : held ≡ Some had) (shapes : (tests : Meanings) → tested tests → FitsShapes tests had)
+module _ (stated : StepMeanings → Type 0) (tested : Meanings → Type 0) (held : Option PlanView) (plan had : PlanView) (is : held ≡ Some plan) (also : held ≡ Some had) (signatures : (tests : Meanings) → tested tests → FitsSignatures tests had)
     (old mid : Cursor) where
   one : had ≡ plan
   one = let same : Some had ≡ Some plan = sym also ∙ is in cc
 
   -- what the evaluation comes to there
   pub comes_to : given mid ≡ given old → answers mid ≡ answers old → (o : Outcome)
-      → ((m : StepMeanings) (tests : Meanings) → stated m → FitsShapes tests had → IsAt m tests had.tree old → IsOutcome m tests had.tree (given mid) (length (answers mid)) o)
+      → ((m : StepMeanings) (tests : Meanings) → stated m → FitsSignatures tests had → IsAt m tests had.tree old → IsOutcome m tests had.tree (given mid) (length (answers mid)) o)
       → ComesTo stated tested plan.tree old o
   comes_to same again o right = λ m tests means asked at.
-      let so = right m tests means (shapes tests asked) (subst (λ (p : PlanView). IsAt m tests p.tree old) (sym one) at) in
+      let so = right m tests means (signatures tests asked) (subst (λ (p : PlanView). IsAt m tests p.tree old) (sym one) at) in
       subst (λ (p : PlanView). IsOutcome m tests p.tree (given old) (length (answers old)) o) one
       (subst (λ (rs : List (ℕ × ℤ)). IsOutcome m tests had.tree rs (length (answers old)) o) same
       (subst (λ (bs : List Bool). IsOutcome m tests had.tree (given mid) (length bs) o) again so))
 
   -- it stands there where tests gave the answers
-  pub stays_at : ((m : StepMeanings) (tests : Meanings) → stated m → FitsShapes tests had → IsAt m tests had.tree old → IsAt m tests had.tree mid)
+  pub stays_at : ((m : StepMeanings) (tests : Meanings) → stated m → FitsSignatures tests had → IsAt m tests had.tree old → IsAt m tests had.tree mid)
       → (m : StepMeanings) (tests : Meanings) → stated m → tested tests → IsAt m tests plan.tree old → IsAt m tests plan.tree mid
   stays_at goes m tests means asked at =
-      subst (λ (p : PlanView). IsAt m tests p.tree mid) one (goes m tests means (shapes tests asked) (subst (λ (p : PlanView). IsAt m tests p.tree old) (sym one) at))
+      subst (λ (p : PlanView). IsAt m tests p.tree mid) one (goes m tests means (signatures tests asked) (subst (λ (p : PlanView). IsAt m tests p.tree old) (sym one) at))
 
 -- a test that a plan asks for is one of the table's, with as many values as its footprint has variables there
 pub filled_in : (names footprints : List (List ℕ)) (stated : Meanings → Type 0) → ∥ ((m : Meanings) × stated m) ∥₁ → ((m : Meanings) → stated m → map m.footprint names ≡ footprints)
-    → (shapes : List Shape) → ((m : Meanings) → stated m → AreMeant m shapes) → (name : List ℕ) (values : List ℤ) → has_name (names_of shapes) name ≡ true → length values ≡ length (footprint_in shapes name)
+    → (signatures : List Signature) → ((m : Meanings) → stated m → AreMeant m signatures) → (name : List ℕ) (values : List ℤ) → has_name (names_of signatures) name ≡ true → length values ≡ length (footprint_in signatures name)
     → (index : ℕ) → slice_get names index ≡ Some name → length values ≡ length (slice_index_or footprints index [])
-filled_in names footprints stated some over shapes meant name values known filled index there = ∥∥₁_elim some (hlevel props) (λ (it : (m : Meanings) × stated m).
-    filled_by it.0 names footprints name (length values) (over it.0 it.1) (filled ∙ ap length (footprint_in-AreMeant it.0 shapes name (meant it.0 it.1) known)) index there)
+filled_in names footprints stated some over signatures meant name values known filled index there = ∥∥₁_elim some (hlevel props) (λ (it : (m : Meanings) × stated m).
+    filled_by it.0 names footprints name (length values) (over it.0 it.1) (filled ∙ ap length (footprint_in-AreMeant it.0 signatures name (meant it.0 it.1) known)) index there)
 
 module _ (program : Program) (m : WorldModel) (k : ℕ) (old new : WorldAttempt) (state : State) (now : state ≡ present program m) (stated : StepMeanings → Type 0) (means : stated program.steps)
     (tested : Meanings → Type 0) (asked : tested program.tests) where

@@ -6,7 +6,7 @@ use Rattle.tmem_effect.specs.State.{State}
 use Rattle.tmem_effect.specs.Writes.{value_in}
 use Rattle.tmem_invariants.specs.Meanings.{Meanings}
 use Rattle.tmem_tree.specs.declared.tx.Tx.{Tx}
-use Rattle.tmem_tree.specs.Plans.{PlanView, FitsSteps, FitsVariables, FitsNames, FitsShapes}
+use Rattle.tmem_tree.specs.Plans.{PlanView, FitsSteps, FitsVariables, FitsNames, FitsSignatures}
 use Rattle.tmem_tree.specs.StepAnswers.{StepMeanings}
 use Rattle.tmem_tentative.specs.Cursors.{StandsIn, IsAt, HasEnded, IsAsBefore, given, answers, attempt_of}
 use Rattle.tmem_tentative.specs.Fits.{IsForVariables, IsForNames}
@@ -40,7 +40,7 @@ pub record FitsPlan (vars : ℕ) (arities : List ℕ) (stated : StepMeanings →
   pub variables : FitsVariables vars plan
   pub steps : FitsSteps arities plan.tree
   pub names : FitsNames known plan.tree
-  pub shapes : (tests : Meanings) → tested tests → FitsShapes tests plan
+  pub signatures : (tests : Meanings) → tested tests → FitsSignatures tests plan
   pub stands : (m : StepMeanings) → stated m → StandsIn m plan cursor
   pub ended : HasEnded cursor → IsForStore vars known (attempt_of cursor)
 

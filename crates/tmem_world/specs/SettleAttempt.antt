@@ -15,7 +15,7 @@ use Rattle.tmem_world.specs.declared.core_and_journal.CoreAndJournal.{CoreAndJou
 use Rattle.tmem_world.specs.Replies.{reply_of}
 use Rattle.tmem_world.specs.Attempts.{HoldsEnded, emptied}
 
--- the attempt after an answer: a refused one stays
+-- the attempt after an answer: one that met a fault stays
 abbrev pub attempt_after : Result Settled Fault → WorldAttempt → WorldAttempt
 attempt_after (Ok settled) s = emptied s
 attempt_after (Err f) s = s

@@ -60,7 +60,7 @@ no_transactions = replicate 16 NoTransaction
 pub record WorldModel : Type 0 where
   pub opened : State
   pub committed : List Tx
-  -- how many records are durable; a flush whose outcome is unknown may have made it the doubtful number
+  -- how many transactions are durable; a flush that answered `Unknown` may have made it the doubtful number
   pub durable : ℕ
   pub doubtful : ℕ
   -- which image is chosen, and how many log slots are used behind it
@@ -146,7 +146,7 @@ abbrev pub is_closed : CoreStatus → Bool
 is_closed Open = false
 is_closed _ = true
 
--- The run after the answer to a plan that has ended. A refused attempt stays.
+-- The run after the answer to a plan that has ended. An attempt that meets a fault stays.
 abbrev pub settled_by : Result Settled Fault → WorldModel → ℕ → Tx → WorldModel
 settled_by (Ok (Committed number registers)) m k plan = record (holding m k NoTransaction) { committed = m.committed ++ plan ∷ [] }
 settled_by (Ok settled) m k plan = holding m k NoTransaction
@@ -160,11 +160,11 @@ settle_result program (Ended plan reads) m k =
     let answer = judged (is_closed m.status) (present program m) m.durable reads (verdict program plan (present program m)) in
     (reply_of answer, settled_by answer m k plan)
 
--- the records that are not durable, the oldest first
+-- the effects that are not durable, the oldest first
 abbrev pub not_durable : Program → WorldModel → List Effect
 not_durable program m = drop (m.durable - m.opened.count) (serial_effects program m.opened m.committed)
 
--- A batch of the oldest records that are not durable reaches this number: it takes the next record exactly while it has
+-- A batch of the oldest effects that are not durable reaches this number: it takes the next one exactly while it has
 -- fewer than 64 and the longest record would still fit.
 pub record IsBatchEnd (program : Program) (m : WorldModel) (n : ℕ) : Type 0 where
   pub more : m.durable < n
@@ -182,7 +182,7 @@ AllowsFlushOfSome program m (reply.Fault fault.Unknown) m' =
     (n : ℕ) × IsBatchEnd program m n × (m' ≡ record m { status = Closed; failures = after_fault m.failures; doubtful = n })
 AllowsFlushOfSome program m _ m' = ⊥
 
--- Nothing is written where every record is durable, nor where each of so many log slots is used.
+-- Nothing is written where every transaction is durable, nor where each of so many log slots is used.
 abbrev pub AllowsFlush : Program → ℕ → CoreStatus → WorldModel → Reply → WorldModel → Type 0
 AllowsFlush program slots Open m r m' =
     MatchBool (nat_eq m.durable (present program m).count)

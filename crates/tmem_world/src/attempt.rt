@@ -2,9 +2,9 @@
 ghost use Rattle.std.specs.Prelude.{◌≡◌, ◌↔◌, ℕ, List, Some, None, [], length, IsTrue, OnOk, IfErr};
 ghost use Rattle.tmem_invariants.specs.Meanings.{Meanings};
 ghost use Rattle.tmem_tree.specs.declared.tx.Tx.{Tx};
-ghost use Rattle.tmem_tree.specs.declared.shape.Shape.{Shape};
+ghost use Rattle.tmem_tree.specs.declared.signature.Signature.{Signature};
 ghost use Rattle.tmem_tree.specs.Plans.{PlanView};
-ghost use Rattle.tmem_tree.specs.Shapes.{AreMeant, names_of};
+ghost use Rattle.tmem_tree.specs.Signatures.{AreMeant, names_of};
 ghost use Rattle.tmem_tree.specs.StepAnswers.{StepMeanings};
 ghost use Rattle.tmem_core.specs.Held.{core_state, core_table};
 ghost use Rattle.tmem_tentative.specs.Cursors.{StandsIn, IsAt, HasEnded, IsAsBefore, given, answers};
@@ -71,8 +71,8 @@ impl WorldAttempt {
             → IsAt m tests plan.tree self.old.cursor → IsAt m tests plan.tree self.new.cursor }
         ensures plan { self.new.plan ≡ self.old.plan }
         ensures failures { (n : ℕ) → failures_by result n ≡ n }
-        ensures fits { (shapes : List Shape) → FitsAttempt (length (core_state core.now).values) (S.arities steps.now) (S.is_stated steps.now) (names_of shapes) (λ tests. AreMeant tests shapes) self.old
-            → FitsAttempt (length (core_state core.now).values) (S.arities steps.now) (S.is_stated steps.now) (names_of shapes) (λ tests. AreMeant tests shapes) self.new }
+        ensures fits { (signatures : List Signature) → FitsAttempt (length (core_state core.now).values) (S.arities steps.now) (S.is_stated steps.now) (names_of signatures) (λ tests. AreMeant tests signatures) self.old
+            → FitsAttempt (length (core_state core.now).values) (S.arities steps.now) (S.is_stated steps.now) (names_of signatures) (λ tests. AreMeant tests signatures) self.new }
     {
         let Some(plan) = &self.plan else {
             return Reply::Idle;

@@ -17,7 +17,7 @@ use tmem_invariants::Invariants;
 use tmem_journal::Journal;
 use tmem_opening::Opening;
 use tmem_state::Batch;
-use tmem_tree::Shape;
+use tmem_tree::Signature;
 
 /// What a world keeps from an opening to the next one, or to a crash. The core is shut once the journal is closed.
 #[derive(Drop)]
@@ -35,24 +35,24 @@ pub(crate) struct CoreAndJournal<D: Disk, T: Invariants> {
 }
 
 impl<D: Disk, T: Invariants + Drop> CoreAndJournal<D, T> {
-    /// Those of an opening. The shapes of its table's invariants are handed on.
-    pub(crate) fn of(opening: Opening<D, T>) -> (CoreAndJournal<D, T>, Vec<Shape>)
+    /// Those of an opening. The signatures of its table's invariants are handed on.
+    pub(crate) fn of(opening: Opening<D, T>) -> (CoreAndJournal<D, T>, Vec<Signature>)
         ensures core { result.0.core ≡ opening.core }
         ensures journal { result.0.journal ≡ opening.journal }
-        ensures shapes { result.1 ≡ opening.shapes }
+        ensures signatures { result.1 ≡ opening.signatures }
     {
         let Opening {
             core,
             journal,
             batch,
-            shapes,
+            signatures,
         } = opening;
         let both = CoreAndJournal {
             core,
             journal,
             batch,
         };
-        (both, shapes)
+        (both, signatures)
     }
 
     ghost use Rattle.tmem_world.specs.CoresAndJournals.{FlushesBoth, CheckpointsBoth, CallsDevice};
@@ -101,7 +101,7 @@ impl<D: Disk, T: Invariants + Drop> CoreAndJournal<D, T> {
         self.core.take(durable, &mut self.batch);
         let flushed = self.journal.flush(&self.batch);
         match &flushed {
-            Ok(number) => self.core.note_durable(*number),
+            Ok(number) => self.core.learn_durable(*number),
             Err(_) => {
                 if self.journal.is_closed() {
                     self.core.shut();

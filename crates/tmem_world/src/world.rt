@@ -4,7 +4,7 @@ ghost use Rattle.std.proofs.Props.{props};
 ghost use Rattle.tmem_effect.specs.State.{State};
 ghost use Rattle.tmem_effect.specs.Names.{has_name};
 ghost use Rattle.tmem_invariants.specs.Meanings.{Meanings};
-ghost use Rattle.tmem_tree.specs.Shapes.{AreMeant as HaveFootprints, AreWithin, names_of};
+ghost use Rattle.tmem_tree.specs.Signatures.{AreMeant as HaveFootprints, AreWithin, names_of};
 ghost use Rattle.tmem_core.specs.Program.{Program, IsProgramOf};
 ghost use Rattle.tmem_gate.specs.Calls.{Uses};
 ghost use Rattle.tmem_journal.specs.Contents.{Position};
@@ -26,7 +26,7 @@ use tmem_fault::{Fault, Name};
 use tmem_invariants::Invariants;
 use tmem_journal::{Layout, refused_represents_none, represents_one, spent_is_at_last};
 use tmem_opening::Opening;
-use tmem_tree::{Plan, Shape, StoredSteps, Tx};
+use tmem_tree::{Plan, Signature, StoredSteps, Tx};
 
 /// Durable transactional memory for one thread: it plays events over the present state and a device.
 pub struct World<D: Disk, T: Invariants, S: StoredSteps> {
@@ -34,7 +34,7 @@ pub struct World<D: Disk, T: Invariants, S: StoredSteps> {
     layout: Layout,
     steps: S,
     // what a plan has to know of the table's invariants, in its order
-    shapes: Vec<Shape>,
+    signatures: Vec<Signature>,
     // a core with its journal, or what is left without one: it is away only while the device is opened again
     held: Option<Held<D, T>>,
     attempts: Vec<WorldAttempt>,
@@ -42,10 +42,10 @@ pub struct World<D: Disk, T: Invariants, S: StoredSteps> {
     ghost here: { IsSome held },
     ghost same_vars: { (layout_in (what held here)).vars ≡ layout.vars },
     ghost same_slots: { (layout_in (what held here)).slots ≡ layout.slots },
-    ghost named: { names_of shapes.items ≡ T.names (table_in (what held here)) },
-    ghost meant: { (tests : Meanings) → T.is_stated (table_in (what held here)) tests → HaveFootprints tests shapes.items },
-    ghost within: { AreWithin layout.vars shapes.items },
-    ghost fit: { All (FitsAttempt layout.vars (S.arities steps) (S.is_stated steps) (names_of shapes.items) (λ tests. HaveFootprints tests shapes.items)) attempts.items } by { Prim.hlevel (props, FitsAttempt-prop) },
+    ghost named: { names_of signatures.items ≡ T.names (table_in (what held here)) },
+    ghost meant: { (tests : Meanings) → T.is_stated (table_in (what held here)) tests → HaveFootprints tests signatures.items },
+    ghost within: { AreWithin layout.vars signatures.items },
+    ghost fit: { All (FitsAttempt layout.vars (S.arities steps) (S.is_stated steps) (names_of signatures.items) (λ tests. HaveFootprints tests signatures.items)) attempts.items } by { Prim.hlevel (props, FitsAttempt-prop) },
 }
 
 // By hand, so that a function that drops one makes one call.
@@ -55,7 +55,7 @@ impl<D: Disk + Drop, T: Invariants + Drop, S: StoredSteps + Drop> Drop for World
             alloc: _alloc,
             layout: _layout,
             steps: _steps,
-            shapes: _shapes,
+            signatures: _signatures,
             held: _held,
             attempts: _attempts,
         } = self;
@@ -125,12 +125,12 @@ impl<D: Disk + Drop, T: Invariants + Drop, S: StoredSteps + Drop> World<D, T, S>
             Ok(attempts) => attempts,
             Err(_) => return Err((Fault::Memory, opening.into_disk())),
         };
-        let (both, shapes) = CoreAndJournal::of(opening);
+        let (both, signatures) = CoreAndJournal::of(opening);
         Ok(World {
             alloc,
             layout: both.journal.layout(),
             steps,
-            shapes,
+            signatures,
             held: Some(Held::With(both)),
             attempts,
         })
@@ -190,7 +190,7 @@ impl<D: Disk + Drop, T: Invariants + Drop, S: StoredSteps + Drop> World<D, T, S>
     }
 
     /// Whether it has a core, also one that is closed.
-    pub fn is_open(&self) -> bool
+    pub fn has_core(&self) -> bool
         ensures held { IsTrue result ↔ HasCore self.now }
         ensures status { (program : Program) (m : WorldModel) → Represents program self.now m → result ≡ is_there m.status }
     {
@@ -239,7 +239,7 @@ impl<D: Disk + Drop, T: Invariants + Drop, S: StoredSteps + Drop> World<D, T, S>
             alloc: _alloc,
             layout: _layout,
             steps: _steps,
-            shapes: _shapes,
+            signatures: _signatures,
             held,
             attempts: _attempts,
         } = self;
@@ -251,10 +251,10 @@ impl<D: Disk + Drop, T: Invariants + Drop, S: StoredSteps + Drop> World<D, T, S>
         requires { attempt < 16 }
         ensures { IsAnswered self.old (Event.Begin attempt tx) result self.new }
     {
-        if !self.is_open() {
+        if !self.has_core() {
             return Reply::Fault(Fault::Closed);
         }
-        let plan = match Plan::new(tx, &self.steps, self.layout.vars, &self.shapes) {
+        let plan = match Plan::new(tx, &self.steps, self.layout.vars, &self.signatures) {
             Ok(plan) => plan,
             Err(fault) => return Reply::Fault(fault),
         };

@@ -1,6 +1,6 @@
 //! Settles transactions in a front, each call once more where it is refused.
 ghost use Rattle.std.specs.Prelude.{◌≡◌, length};
-ghost use Rattle.tmem_tree.specs.Plans.{FitsSteps, FitsVariables, FitsNames, FitsShapes};
+ghost use Rattle.tmem_tree.specs.Plans.{FitsSteps, FitsVariables, FitsNames, FitsSignatures};
 
 use crate::refusals::printing::{say_fault, say_line, say_name, say_number};
 use crate::refusals::tasks::{TASKS, Task};
@@ -103,7 +103,7 @@ fn settle_and_say<N: StoreNaming, T: Invariants + Drop, R: Clock + Print + Wait>
     requires steps { FitsSteps (⟦<BuiltinSteps as StoredSteps>⟧.arities front.now.steps) plan.now.tree }
     requires variables { FitsVariables front.now.vars plan.now }
     requires names { FitsNames N.program.names plan.now.tree }
-    requires shapes { FitsShapes N.program.tests plan.now }
+    requires signatures { FitsSignatures N.program.tests plan.now }
 {
     let settled = settled(rt, front, pass, plan, call);
     say(rt, &settled);
@@ -122,7 +122,7 @@ fn settled<N: StoreNaming, T: Invariants + Drop, R: Clock + Wait>(
     requires steps { FitsSteps (⟦<BuiltinSteps as StoredSteps>⟧.arities front.now.steps) plan.now.tree }
     requires variables { FitsVariables front.now.vars plan.now }
     requires names { FitsNames N.program.names plan.now.tree }
-    requires shapes { FitsShapes N.program.tests plan.now }
+    requires signatures { FitsSignatures N.program.tests plan.now }
 {
     match call {
         Call::Attempt => match front.attempt(rt, plan) {

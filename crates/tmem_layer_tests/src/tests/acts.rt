@@ -44,11 +44,11 @@ pub(super) enum Act<'a> {
     FailWrite(u64),
     FailSync(u64),
     /// Arms a crash, at a write or a sync by its number from now, or at a write by the offset where it starts.
-    StopAtWrite(u64, Fill),
-    StopAtSync(u64, Fill),
-    StopAtPlace(u64, Fill),
+    CrashAtWrite(u64, Fill),
+    CrashAtSync(u64, Fill),
+    CrashAtPlace(u64, Fill),
     /// Crashes it now.
-    StopNow(Fill),
+    CrashNow(Fill),
     /// It has crashed.
     IsCrashed,
     /// It has crashed, and is started again.
@@ -458,10 +458,10 @@ fn is_so_of_power(disk: &mut SimDisk, act: &Act) -> bool {
         Act::FailRead(k) => disk.fail_read(k),
         Act::FailWrite(k) => disk.fail_write(k),
         Act::FailSync(k) => disk.fail_sync(k),
-        Act::StopAtWrite(k, fill) => disk.stop_at_write(k, fill),
-        Act::StopAtSync(k, fill) => disk.stop_at_sync(k, fill),
-        Act::StopAtPlace(at, fill) => disk.stop_at_place(at, fill),
-        Act::StopNow(fill) => disk.stop_now(fill),
+        Act::CrashAtWrite(k, fill) => disk.stop_at_write(k, fill),
+        Act::CrashAtSync(k, fill) => disk.stop_at_sync(k, fill),
+        Act::CrashAtPlace(at, fill) => disk.stop_at_place(at, fill),
+        Act::CrashNow(fill) => disk.stop_now(fill),
         Act::IsCrashed => return disk.is_crashed(),
         Act::Restarts if disk.is_crashed() => disk.restart(),
         _ => return false,

@@ -84,3 +84,37 @@ fn a_turn_lets_others_in_where_there_are_several(rt: HostRuntime) -> Result<(), 
     assert!(&rt; several >= 2 && several <= MOST_READINGS, "{several}");
     Ok(())
 }
+
+/// A clock of which each reading is so many microseconds behind the one before.
+#[derive(Drop)]
+struct Stepping {
+    micros: u64,
+    readings: AtomicU64,
+}
+
+impl Clock for Stepping {
+    fn monotonic(&self) -> io::Result<Duration> {
+        let reading = self.readings.fetch_add(1, Ordering::SeqCst);
+        Ok(Duration::from_micros(reading.saturating_mul(self.micros)))
+    }
+
+    fn since_1970(&self) -> io::Result<Duration> {
+        Ok(Duration::ZERO)
+    }
+}
+
+// How often a clock of such steps is read at a turn.
+fn readings_in_steps_of<R: Abort>(rt: &R, micros: u64) -> u64 {
+    let readings = AtomicU64::new(0);
+    let clock = Stepping { micros, readings };
+    assert!(rt; Gathering::new(&clock, true).next());
+    clock.readings.load(Ordering::SeqCst)
+}
+
+#[test]
+fn a_turn_lets_others_in_for_some_ten_microseconds(rt: HostRuntime) -> Result<(), Fail> {
+    // as the turn begins, and each time that others were let in
+    assert!(&rt; readings_in_steps_of(&rt, 20) == 2);
+    assert!(&rt; readings_in_steps_of(&rt, 4) == 4);
+    Ok(())
+}

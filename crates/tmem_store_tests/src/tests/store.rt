@@ -3,7 +3,7 @@ ghost use Rattle.std.specs.Prelude.{◌≡◌, ◌<◌, length};
 ghost use Rattle.std.proofs.Props.{props};
 ghost use Rattle.tmem_tentative.specs.CursorFacts.{IsEndingFor-prop};
 ghost use Rattle.tmem_tentative.specs.Fits.{IsForVariables, IsForNames};
-ghost use Rattle.tmem_tree.specs.Plans.{FitsSteps, FitsVariables, FitsNames, FitsShapes};
+ghost use Rattle.tmem_tree.specs.Plans.{FitsSteps, FitsVariables, FitsNames, FitsSignatures};
 
 use super::fronts::Asked;
 use super::moves::{Answer, Move};
@@ -323,7 +323,7 @@ fn settled_by<
     requires steps { FitsSteps (S.arities front.now.steps) plan.now.tree }
     requires variables { FitsVariables front.now.vars plan.now }
     requires names { FitsNames N.program.names plan.now.tree }
-    requires shapes { FitsShapes N.program.tests plan.now }
+    requires signatures { FitsSignatures N.program.tests plan.now }
 {
     match call {
         Call::AttemptAndSettle => attempt_and_settle(front, rt, pass, plan),
@@ -345,7 +345,7 @@ fn attempt_and_settle<
     requires steps { FitsSteps (S.arities front.now.steps) plan.now.tree }
     requires variables { FitsVariables front.now.vars plan.now }
     requires names { FitsNames N.program.names plan.now.tree }
-    requires shapes { FitsShapes N.program.tests plan.now }
+    requires signatures { FitsSignatures N.program.tests plan.now }
 {
     match front.attempt(rt, plan) {
         Ok(attempt) => front.settle(rt, pass, &attempt),

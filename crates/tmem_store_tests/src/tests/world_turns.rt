@@ -1,4 +1,4 @@
-//! An evaluation of as many turns as there may be, over invariants with footprints of their own, and the shapes of their table.
+//! An evaluation of as many turns as there may be, over invariants with footprints of their own, and the signatures of their table.
 ghost use Rattle.std.specs.Prelude.{◌≡◌, ◌≤◌, length};
 ghost use Rattle.tmem_store_tests.specs.Programs.{is_last_not_negative};
 
@@ -9,7 +9,7 @@ use std::test::Fail;
 use tmem_fault::Fault;
 use tmem_invariants::Invariants;
 use tmem_tables::Table;
-use tmem_tree::{MAX_TURNS, Shape, Steps, StoredSteps, Tx, shapes_of};
+use tmem_tree::{MAX_TURNS, Signature, Steps, StoredSteps, Tx, signatures_of};
 use tmem_world::{Event, Reply};
 
 const VARS: u16 = 1024;
@@ -61,16 +61,16 @@ fn turns_of_new_store<T: Invariants + Drop, S: StoredSteps + Drop>(
     }
 }
 
-/// Whether the shapes of a table are those of the eight invariants.
-fn has_eight_shapes<T: Invariants>(alloc: Global, table: &T) -> Result<bool, Fault> {
-    are_of_eight(&shapes_of(alloc, table)?)
+/// Whether the signatures of a table are those of the eight invariants.
+fn has_eight_signatures<T: Invariants>(alloc: Global, table: &T) -> Result<bool, Fault> {
+    are_of_eight(&signatures_of(alloc, table)?)
 }
 
-/// Whether shapes are those.
-fn are_of_eight(shapes: &[Shape]) -> Result<bool, Fault> {
+/// Whether signatures are those.
+fn are_of_eight(signatures: &[Signature]) -> Result<bool, Fault> {
     let mut n = 0u8;
-    for shape in shapes {
-        if n > 7 || !is_shape_of(shape, n)? {
+    for signature in signatures {
+        if n > 7 || !is_signature_of(signature, n)? {
             return Ok(false);
         }
         n += 1;
@@ -78,25 +78,25 @@ fn are_of_eight(shapes: &[Shape]) -> Result<bool, Fault> {
     Ok(n == 8)
 }
 
-/// Whether a shape is that of the invariant of a number.
-fn is_shape_of(shape: &Shape, number: u8) -> Result<bool, Fault>
+/// Whether a signature is that of the invariant of a number.
+fn is_signature_of(signature: &Signature, number: u8) -> Result<bool, Fault>
     requires { number ≤ 7 }
 {
-    let footprint = shape.footprint.as_slice();
-    if footprint.len() != 16 || shape.name != numbered(number)? {
+    let footprint = signature.footprint.as_slice();
+    if footprint.len() != 16 || signature.name != numbered(number)? {
         return Ok(false);
     }
     let first = 16 * u16::from(number);
     Ok(footprint[0] == first && footprint[15] == first + 15)
 }
 
-/// How many turns that transaction takes over a table, or none where its shapes are not those of the eight invariants.
+/// How many turns that transaction takes over a table, or none where its signatures are not those of the eight invariants.
 fn turns_over<T: Invariants + Drop, S: StoredSteps + Drop>(
     alloc: Global,
     table: T,
     steps: S,
 ) -> Result<Option<u32>, Fault> {
-    if has_eight_shapes(alloc, &table)? {
+    if has_eight_signatures(alloc, &table)? {
         Ok(Some(turns_of_new_store(alloc, table, steps)?))
     } else {
         Ok(None)

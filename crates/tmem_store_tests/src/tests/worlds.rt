@@ -76,7 +76,7 @@ impl<T: Invariants + Drop, S: StoredSteps + Drop> Played for World<SimDisk, T, S
     }
 
     fn knows(&self, name: &Name) -> Option<bool> {
-        if self.is_open() {
+        if self.has_core() {
             Some(self.has(name))
         } else {
             None

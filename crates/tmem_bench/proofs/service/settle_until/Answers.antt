@@ -14,8 +14,8 @@ settle_some-requires-clause-variables g c = c.requires.variables
 pub settle_some-requires-clause-names : goal.settle_some-requires-clause-names
 settle_some-requires-clause-names g c = c.requires.names
 
-pub settle_some-requires-clause-shapes : goal.settle_some-requires-clause-shapes
-settle_some-requires-clause-shapes g c = c.requires.shapes
+pub settle_some-requires-clause-signatures : goal.settle_some-requires-clause-signatures
+settle_some-requires-clause-signatures g c = c.requires.signatures
 
 pub loop-preserved : goal.loop-preserved
 loop-preserved g c = c.settle_some.ensures ∙ c.loop.invariant

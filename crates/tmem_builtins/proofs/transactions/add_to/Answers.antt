@@ -2,7 +2,7 @@ use Rattle.std.proofs.Common.{◌≡◌, [], ◌∷◌, refl, ap}
 use Rattle.tmem_tree.specs.declared.tx.Tx.TheVariants.{Put, Read, Write}
 use Rattle.tmem_builtins.proofs.Endings.{add_to_ends}
 use Rattle.tmem_builtins.proofs.Sequences.{begins, put_passed}
-use Rattle.tmem_builtins.proofs.Shapes.{AreQuiet, call_quiet, write_quiet, both_reads, both_number}
+use Rattle.tmem_builtins.proofs.Quiet.{AreQuiet, call_quiet, write_quiet, both_reads, both_number}
 use Rattle.tmem_builtins.proofs.Sizes.{none_sized, with_one, read_one, put_one, write_one, add_one, seq_sized}
 use Rattle.tmem_builtins.proofs.transactions.add_to.Goals as goal
 

@@ -2,7 +2,7 @@ use Rattle.std.proofs.Common.{◌≡◌, [], ◌∷◌, refl}
 use Rattle.tmem_tree.specs.declared.tx.Tx.TheVariants.{Put, Write}
 use Rattle.tmem_builtins.proofs.Endings.{put_ends}
 use Rattle.tmem_builtins.proofs.Sequences.{begins, put_passed}
-use Rattle.tmem_builtins.proofs.Shapes.{AreQuiet, write_quiet, put_reads, put_number}
+use Rattle.tmem_builtins.proofs.Quiet.{AreQuiet, write_quiet, put_reads, put_number}
 use Rattle.tmem_builtins.proofs.Sizes.{none_sized, with_one, put_one, write_one, seq_sized}
 use Rattle.tmem_builtins.proofs.transactions.put.Goals as goal
 

@@ -18,7 +18,7 @@ loop-index-preserved c =
     record {
       tree = tree_more index ns _ (pos 0) _ _ _ (omega arith) same so_far.tree done.tree;
       taken = list_more index ns _ (pos 0) _ _ _ (omega arith) same so_far.taken numbered;
-      shapes = done.shapes ∙ so_far.shapes;
+      signatures = done.signatures ∙ so_far.signatures;
       steps = λ arities fits. done.steps arities (so_far.steps arities fits);
       variables = λ vars fits. done.variables vars (so_far.variables vars fits);
       names = λ names fits. done.names names (so_far.names names fits);

@@ -12,12 +12,12 @@ returns-in_err-used-clause-refused g c =
     rw (returned.1, returned.2) (as_damaged c.in_err-used.field-0.0 c.in_err-used.ensures.errors
     (λ k batches holds. c.in_err-used.ensures.refused seen (is_log c.args.layout.vars c.args.layout.slots c.slot.result _ seen c.in_ok-log.log.items c.deref-bytes.result.now c.slot.ensures c.requires.room (c.in_ok-log.ensures.bytes k) c.deref-bytes.ensures.value) batches (from_first holds)))
 
-pub returns-then-not-are_stale-clause-refused : goal.returns-then-not-are_stale-clause-refused
-returns-then-not-are_stale-clause-refused g c = λ k batches holds.
+pub returns-then-not-are_closed_or_stale-clause-refused : goal.returns-then-not-are_closed_or_stale-clause-refused
+returns-then-not-are_closed_or_stale-clause-refused g c = λ k batches holds.
     let seen = (g.D.Disk.view c.args.disk.now).seen in
     let few : c.args.layout.vars ≤ 2 ^ 16 = omega (arith, c.args.layout.fits.vars_fit) in
     let is = is_log c.args.layout.vars c.args.layout.slots c.slot.result _ seen c.in_ok-log.log.items c.deref-bytes.result.now c.slot.ensures c.requires.room (c.in_ok-log.ensures.bytes k) c.deref-bytes.ensures.value in
-    false≢true (sym c.if-not-are_stale.true ∙ c.are_stale.ensures.1 (no_log c.args.version c.args.layout.vars c.args.layout.slots c.args.generation few holds.generation_fits c.args.state.now seen c.deref-bytes.result.now is
+    false≢true (sym c.if-not-are_closed_or_stale.true ∙ c.are_closed_or_stale.ensures.1 (no_log c.args.version c.args.layout.vars c.args.layout.slots c.args.generation few holds.generation_fits c.args.state.now seen c.deref-bytes.result.now is
     c.in_ok-used.used c.replay.new.state c.in_ok-used.ensures.few c.in_ok-used.ensures.ends (c.in_ok-used.ensures.reached seen is) batches holds))
 
 pub returns-clause-found : goal.returns-clause-found
@@ -27,7 +27,7 @@ returns-clause-found g c = λ k.
     let fits : c.args.generation < 2 ^ 64 = omega (arith, c.ranges.generation) in
     let is = is_log c.args.layout.vars c.args.layout.slots c.slot.result _ seen c.in_ok-log.log.items c.deref-bytes.result.now c.slot.ensures c.requires.room (c.in_ok-log.ensures.bytes k) c.deref-bytes.ensures.value in
     log_found c.args.version c.args.layout.vars c.args.layout.slots c.args.generation few fits c.args.state.now seen c.deref-bytes.result.now is c.in_ok-used.used c.replay.new.state c.in_ok-used.ensures.few c.in_ok-used.ensures.ends
-    (c.in_ok-used.ensures.reached seen is) c.in_ok-used.ensures.within (c.are_stale.ensures.0 c.if-not-are_stale.false)
+    (c.in_ok-used.ensures.reached seen is) c.in_ok-used.ensures.within (c.are_closed_or_stale.ensures.0 c.if-not-are_closed_or_stale.false)
 
 pub returns-clause-few : goal.returns-clause-few
 returns-clause-few g c = c.in_ok-used.ensures.few
@@ -35,8 +35,8 @@ returns-clause-few g c = c.in_ok-used.ensures.few
 pub returns-clause-sized : goal.returns-clause-sized
 returns-clause-sized g c = c.in_ok-used.ensures.sized
 
-pub returns-then-not-are_stale-clause-uses : goal.returns-then-not-are_stale-clause-uses
-returns-then-not-are_stale-clause-uses g c =
+pub returns-then-not-are_closed_or_stale-clause-uses : goal.returns-then-not-are_closed_or_stale-clause-uses
+returns-then-not-are_closed_or_stale-clause-uses g c =
     let read = c.read_piece.ensures.uses in
     record { capacity = read.capacity; model = read.model; failures = c.in_ok-log.ensures.uses.failures }
 

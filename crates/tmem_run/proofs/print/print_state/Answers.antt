@@ -3,9 +3,9 @@ use Rattle.tmem_world.specs.Represents.{HasCore}
 use Rattle.tmem_run.proofs.Showing.{refusal_written, state_written}
 use Rattle.tmem_run.proofs.print.print_state.Goals as goal
 
-pub returns-then-not-is_open : goal.returns-then-not-is_open
-returns-then-not-is_open g c =
-    let gone : HasCore c.args.world.now → ⊥ = λ stands. cc (c.if-not-is_open.true, c.is_open.ensures.held.1 stands) in
+pub returns-then-not-has_core : goal.returns-then-not-has_core
+returns-then-not-has_core g c =
+    let gone : HasCore c.args.world.now → ⊥ = λ stands. cc (c.if-not-has_core.true, c.has_core.ensures.held.1 stands) in
     record {
       shown = on_ok_weaker c.print_line.result
           (λ told program m at. refusal_written program c.args.world.now m at c.args.vars _ _ gone told)
@@ -15,7 +15,7 @@ returns-then-not-is_open g c =
 
 pub returns : goal.returns
 returns g c =
-    let stands : HasCore c.args.world.now = c.is_open.ensures.held.0 c.if-not-is_open.false in
+    let stands : HasCore c.args.world.now = c.has_core.ensures.held.0 c.if-not-has_core.false in
     record {
       shown = on_ok_weaker c.print_line-2.result
           (λ last program m at. state_written program c.args.world.now m at c.args.vars _ _ _ _ _ _ c.count.result stands (c.count.ensures program m at) c.in_ok-print_text.ensures.text (c.in_ok-print_names.ensures.names program m at) c.in_ok-print_text-2.ensures.text (c.in_ok-print_values.ensures.values program m at) last)

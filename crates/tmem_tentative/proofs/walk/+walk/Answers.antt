@@ -1,7 +1,7 @@
 use Rattle.std.proofs.lemmas.Grind.{common_steps}
 use Rattle.std.proofs.Common.{◌≡◌, ℕ, ◌+◌, ◌≤◌, length, arith, rules, drop}
-use Rattle.tmem_tree.specs.Limits.{is_write, is_check, is_retire, has_bad_register, has_bad_step, has_bad_arguments, lacks_shape}
-use Rattle.tmem_tree.specs.Shapes.{names_of}
+use Rattle.tmem_tree.specs.Limits.{is_write, is_check, is_retire, has_bad_register, has_bad_step, has_bad_arguments, lacks_signature}
+use Rattle.tmem_tree.specs.Signatures.{names_of}
 use Rattle.tmem_tentative.specs.Logs.{run_state_of}
 use Rattle.tmem_tentative.specs.declared.flow.Flow.TheVariants.{Normal}
 use Rattle.tmem_tentative.proofs.EvalParts.{none_at_start, within_at_start, evals_at_start, none_next, within_next, evals_next}
@@ -17,7 +17,7 @@ walk-loop-t-init g t c =
       registers = none_at_start c.in-Seq.txs c.in-Seq.is c.deref-t-items.ensures.value has_bad_register c.requires.registers;
       steps = none_at_start c.in-Seq.txs c.in-Seq.is c.deref-t-items.ensures.value (has_bad_step arities) c.requires.steps.there;
       arguments = none_at_start c.in-Seq.txs c.in-Seq.is c.deref-t-items.ensures.value (has_bad_arguments arities) c.requires.steps.given;
-      known = none_at_start c.in-Seq.txs c.in-Seq.is c.deref-t-items.ensures.value (lacks_shape (names_of given.shapes.now)) c.requires.known;
+      known = none_at_start c.in-Seq.txs c.in-Seq.is c.deref-t-items.ensures.value (lacks_signature (names_of given.signatures.now)) c.requires.known;
       flow = λ m footprint stated of. evals_at_start c.in-Seq.txs c.in-Seq.is c.deref-t-items.ensures.value m footprint given.reads.now.entries (run_state_of log (drop c.args.tests.now.used given.answers.now));
       writes = within_at_start c.in-Seq.txs c.in-Seq.is c.deref-t-items.ensures.value is_write (length log.effect.writes);
       checks = within_at_start c.in-Seq.txs c.in-Seq.is c.deref-t-items.ensures.value is_check (length log.effect.names);
@@ -136,7 +136,7 @@ walk-loop-t-preserved g t c =
       registers = none_next here has_bad_register before.registers;
       steps = none_next here (has_bad_step arities) before.steps;
       arguments = none_next here (has_bad_arguments arities) before.arguments;
-      known = none_next here (lacks_shape (names_of given.shapes.now)) before.known;
+      known = none_next here (lacks_signature (names_of given.signatures.now)) before.known;
       flow = λ m footprint stated of. evals_next here m footprint given.reads.now.entries c.in_ok-flow-in-Seq.flow log tests.probe _ (run_state_of log (drop tests.used given.answers.now)) normal (before.flow m footprint stated of) (c.in_ok-flow-in-Seq.ensures.flow m footprint stated of);
       writes = within_next here is_write _ _ _ _ before.writes c.walk.ensures.room;
       checks = within_next here is_check _ _ _ _ before.checks c.walk.ensures.names;

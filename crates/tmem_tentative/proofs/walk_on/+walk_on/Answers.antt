@@ -61,57 +61,57 @@ walk_on-walk_part-flow-requires g t c =
 
 pub walk_on-walk_on-flow-requires : goal.walk_on-walk_on-flow-requires
 walk_on-walk_on-flow-requires g t c =
-    let child = then_child (g.S.StoredSteps.is_stated c.args.steps.now) c.args.plan.now.shapes (taken_at c.args.course.now) (enters_as c.args.course.now.path c.enter.new.path c.enter.ensures c.branch_of.ensures c.if-enter-eq0.true) in
+    let child = then_child (g.S.StoredSteps.is_stated c.args.steps.now) c.args.plan.now.signatures (taken_at c.args.course.now) (enters_as c.args.course.now.path c.enter.new.path c.enter.ensures c.branch_of.ensures c.if-enter-eq0.true) in
     λ κs le. (search (rules, folds.the_lemmas), (le, called_may _ _ _ c.in-When.is c.deref-then-enter-eq0.ensures child c.requires))
 
 pub walk_on-returns-then-enter-eq0-clause-runs : goal.walk_on-returns-then-enter-eq0-clause-runs
 walk_on-returns-then-enter-eq0-clause-runs g t c =
-    let child = then_child (g.S.StoredSteps.is_stated c.args.steps.now) c.args.plan.now.shapes (taken_at c.args.course.now) (enters_as c.args.course.now.path c.enter.new.path c.enter.ensures c.branch_of.ensures c.if-enter-eq0.true) in
+    let child = then_child (g.S.StoredSteps.is_stated c.args.steps.now) c.args.plan.now.signatures (taken_at c.args.course.now) (enters_as c.args.course.now.path c.enter.new.path c.enter.ensures c.branch_of.ensures c.if-enter-eq0.true) in
     called_runs _ _ _ c.in-When.is c.deref-then-enter-eq0.ensures child c.walk_on-flow.result c.walk_on-flow.new.course c.note-then-enter-eq0.ensures c.walk_on-flow.ensures.runs
 
 pub walk_on-walk_on-flow-requires-else-enter-eq0 : goal.walk_on-walk_on-flow-requires-else-enter-eq0
 walk_on-walk_on-flow-requires-else-enter-eq0 g t c =
-    let child = other_child (g.S.StoredSteps.is_stated c.args.steps.now) c.args.plan.now.shapes (taken_at c.args.course.now) (enters_as c.args.course.now.path c.enter.new.path c.enter.ensures c.branch_of.ensures refl) (λ is. c.if-enter-eq0.false is) in
+    let child = other_child (g.S.StoredSteps.is_stated c.args.steps.now) c.args.plan.now.signatures (taken_at c.args.course.now) (enters_as c.args.course.now.path c.enter.new.path c.enter.ensures c.branch_of.ensures refl) (λ is. c.if-enter-eq0.false is) in
     λ κs le. (search (rules, folds.the_lemmas), (le, called_may _ _ _ c.in-When.is c.deref-else-enter-eq0.ensures child c.requires))
 
 pub walk_on-returns-else-enter-eq0-clause-runs : goal.walk_on-returns-else-enter-eq0-clause-runs
 walk_on-returns-else-enter-eq0-clause-runs g t c =
-    let child = other_child (g.S.StoredSteps.is_stated c.args.steps.now) c.args.plan.now.shapes (taken_at c.args.course.now) (enters_as c.args.course.now.path c.enter.new.path c.enter.ensures c.branch_of.ensures refl) (λ is. c.if-enter-eq0.false is) in
+    let child = other_child (g.S.StoredSteps.is_stated c.args.steps.now) c.args.plan.now.signatures (taken_at c.args.course.now) (enters_as c.args.course.now.path c.enter.new.path c.enter.ensures c.branch_of.ensures refl) (λ is. c.if-enter-eq0.false is) in
     called_runs _ _ _ c.in-When.is c.deref-else-enter-eq0.ensures child c.walk_on-flow-else-enter-eq0.result c.walk_on-flow-else-enter-eq0.new.course c.note-else-enter-eq0.ensures c.walk_on-flow-else-enter-eq0.ensures.runs
 
 pub walk_on-walk_on-flow-requires-then-not-enter_choice : goal.walk_on-walk_on-flow-requires-then-not-enter_choice
 walk_on-walk_on-flow-requires-then-not-enter_choice g t c =
-    let child = second_child (g.S.StoredSteps.is_stated c.args.steps.now) c.args.plan.now.shapes (taken_at c.args.course.now) c.enter_choice.auto.saves c.if-not-enter_choice.ensures in
+    let child = second_child (g.S.StoredSteps.is_stated c.args.steps.now) c.args.plan.now.signatures (taken_at c.args.course.now) c.enter_choice.auto.saves c.if-not-enter_choice.ensures in
     λ κs le. (search (rules, folds.the_lemmas), (le, called_may _ _ _ c.in-OrElse.is c.deref-then-not-enter_choice.ensures child c.requires))
 
 pub walk_on-returns-then-not-enter_choice-clause-runs : goal.walk_on-returns-then-not-enter_choice-clause-runs
 walk_on-returns-then-not-enter_choice-clause-runs g t c =
-    let child = second_child (g.S.StoredSteps.is_stated c.args.steps.now) c.args.plan.now.shapes (taken_at c.args.course.now) c.enter_choice.auto.saves c.if-not-enter_choice.ensures in
+    let child = second_child (g.S.StoredSteps.is_stated c.args.steps.now) c.args.plan.now.signatures (taken_at c.args.course.now) c.enter_choice.auto.saves c.if-not-enter_choice.ensures in
     called_runs _ _ _ c.in-OrElse.is c.deref-then-not-enter_choice.ensures child c.walk_on-flow-then-not-enter_choice.result c.walk_on-flow-then-not-enter_choice.new.course c.note-then-not-enter_choice.ensures c.walk_on-flow-then-not-enter_choice.ensures.runs
 
 pub walk_on-walk_on-flow-requires-in-OrElse : goal.walk_on-walk_on-flow-requires-in-OrElse
 walk_on-walk_on-flow-requires-in-OrElse g t c =
     let first = enters_choice c.in-OrElse.first c.in-OrElse.second (place_at c.args.course.now c.args.saves.now) c.enter_choice.new.path c.enter_choice.new.saves c.in-OrElse.is c.requires c.enter_choice.auto.saves c.if-not-enter_choice.ensures in
-    λ κs le. (search (rules, folds.the_lemmas), (le, first_called_may (g.S.StoredSteps.is_stated c.args.steps.now) c.args.plan.now.shapes (taken_at c.args.course.now) c.in-OrElse.first c.in-OrElse.second first c.deref-in-OrElse.ensures c.in-OrElse.is c.requires))
+    λ κs le. (search (rules, folds.the_lemmas), (le, first_called_may (g.S.StoredSteps.is_stated c.args.steps.now) c.args.plan.now.signatures (taken_at c.args.course.now) c.in-OrElse.first c.in-OrElse.second first c.deref-in-OrElse.ensures c.in-OrElse.is c.requires))
 
 pub walk_on-returns-then-ne-2-clause-runs : goal.walk_on-returns-then-ne-2-clause-runs
 walk_on-returns-then-ne-2-clause-runs g t c =
     let first = enters_choice c.in-OrElse.first c.in-OrElse.second (place_at c.args.course.now c.args.saves.now) c.enter_choice.new.path c.enter_choice.new.saves c.in-OrElse.is c.requires c.enter_choice.auto.saves c.if-not-enter_choice.ensures in
     let others : c.walk_on-flow-in-OrElse.result ≡ Retry → ⊥ = search rules in
-    first_called_runs (g.S.StoredSteps.is_stated c.args.steps.now) c.args.plan.now.shapes (taken_at c.args.course.now) c.in-OrElse.first c.in-OrElse.second first c.deref-in-OrElse.ensures c.walk_on-flow-in-OrElse.result c.walk_on-flow-in-OrElse.new.course c.in-OrElse.is others c.note-then-ne-2.ensures c.walk_on-flow-in-OrElse.ensures.runs
+    first_called_runs (g.S.StoredSteps.is_stated c.args.steps.now) c.args.plan.now.signatures (taken_at c.args.course.now) c.in-OrElse.first c.in-OrElse.second first c.deref-in-OrElse.ensures c.walk_on-flow-in-OrElse.result c.walk_on-flow-in-OrElse.new.course c.in-OrElse.is others c.note-then-ne-2.ensures c.walk_on-flow-in-OrElse.ensures.runs
 
 pub walk_on-walk_on-flow-requires-in-OrElse-2 : goal.walk_on-walk_on-flow-requires-in-OrElse-2
 walk_on-walk_on-flow-requires-in-OrElse-2 g t c =
     let first = enters_choice c.in-OrElse.first c.in-OrElse.second (place_at c.args.course.now c.args.saves.now) c.enter_choice.new.path c.enter_choice.new.saves c.in-OrElse.is c.requires c.enter_choice.auto.saves c.if-not-enter_choice.ensures in
     let retried : c.walk_on-flow-in-OrElse.result ≡ Retry = search rules in
-    let child = retried_called (g.S.StoredSteps.is_stated c.args.steps.now) c.args.plan.now.shapes (taken_at c.args.course.now) c.in-OrElse.first c.in-OrElse.second first c.deref-in-OrElse.ensures c.walk_on-flow-in-OrElse.result c.walk_on-flow-in-OrElse.new.course c.index-saves-0.result retried c.walk_on-flow-in-OrElse.auto.saves c.walk_on-flow-in-OrElse.ensures.runs c.go_back.ensures.registers c.go_back.ensures.effect in
+    let child = retried_called (g.S.StoredSteps.is_stated c.args.steps.now) c.args.plan.now.signatures (taken_at c.args.course.now) c.in-OrElse.first c.in-OrElse.second first c.deref-in-OrElse.ensures c.walk_on-flow-in-OrElse.result c.walk_on-flow-in-OrElse.new.course c.index-saves-0.result retried c.walk_on-flow-in-OrElse.auto.saves c.walk_on-flow-in-OrElse.ensures.runs c.go_back.ensures.registers c.go_back.ensures.effect in
     λ κs le. (search (rules, folds.the_lemmas), (le, called_may _ _ _ c.in-OrElse.is c.deref-in-OrElse-2.ensures child c.requires))
 
 pub walk_on-returns-else-ne-2-clause-runs : goal.walk_on-returns-else-ne-2-clause-runs
 walk_on-returns-else-ne-2-clause-runs g t c =
     let first = enters_choice c.in-OrElse.first c.in-OrElse.second (place_at c.args.course.now c.args.saves.now) c.enter_choice.new.path c.enter_choice.new.saves c.in-OrElse.is c.requires c.enter_choice.auto.saves c.if-not-enter_choice.ensures in
     let retried : c.walk_on-flow-in-OrElse.result ≡ Retry = search rules in
-    let child = retried_called (g.S.StoredSteps.is_stated c.args.steps.now) c.args.plan.now.shapes (taken_at c.args.course.now) c.in-OrElse.first c.in-OrElse.second first c.deref-in-OrElse.ensures c.walk_on-flow-in-OrElse.result c.walk_on-flow-in-OrElse.new.course c.index-saves-0.result retried c.walk_on-flow-in-OrElse.auto.saves c.walk_on-flow-in-OrElse.ensures.runs c.go_back.ensures.registers c.go_back.ensures.effect in
+    let child = retried_called (g.S.StoredSteps.is_stated c.args.steps.now) c.args.plan.now.signatures (taken_at c.args.course.now) c.in-OrElse.first c.in-OrElse.second first c.deref-in-OrElse.ensures c.walk_on-flow-in-OrElse.result c.walk_on-flow-in-OrElse.new.course c.index-saves-0.result retried c.walk_on-flow-in-OrElse.auto.saves c.walk_on-flow-in-OrElse.ensures.runs c.go_back.ensures.registers c.go_back.ensures.effect in
     let reads : c.go_back.new.log.reads ≡ c.args.course.now.attempt.reads = c.go_back.ensures.reads ∙ c.walk_on-flow-in-OrElse.ensures.reads in
     called_runs _ _ _ c.in-OrElse.is c.deref-in-OrElse-2.ensures child c.walk_on-flow-in-OrElse-2.result c.walk_on-flow-in-OrElse-2.new.course c.note-in-OrElse.ensures (given_before c.args.course.now.attempt c.go_back.new.log reads c.walk_on-flow-in-OrElse-2.ensures.runs)
 

@@ -3,7 +3,7 @@ use Rattle.std.proofs.Common.{◌≡◌, ◌+◌, false, refl, sym, ap, ◌∙�
 use Rattle.std.proofs.lemmas.Bool.{false≢true}
 use Rattle.std.proofs.lemmas.List.{drop_all}
 use Rattle.tmem_tree.specs.Limits.{one_if, count, is_node, is_write, is_check, is_retire, is_step}
-use Rattle.tmem_tree.specs.Shapes.{names_of}
+use Rattle.tmem_tree.specs.Signatures.{names_of}
 use Rattle.tmem_tree.specs.Plans.{is_bad}
 use Rattle.tmem_tree.proofs.Laws.{depth_items, count_items}
 use Rattle.tmem_tree.proofs.Known.{count_items-drop_more}
@@ -14,7 +14,7 @@ use Rattle.tmem_tree.proofs.budget.+pay.Goals as goal
 pub loop-t-init : goal.loop-t-init
 loop-t-init g t c =
     let tx = c.args.tx.now in
-    let bad = is_bad (g.S.StoredSteps.arities c.args.steps.now) c.args.vars (names_of c.args.shapes.now) in
+    let bad = is_bad (g.S.StoredSteps.arities c.args.steps.now) c.args.vars (names_of c.args.signatures.now) in
     let fine : bad tx ≡ false = said c.has_bad_part.ensures c.if-has_bad_part.false in
     let all = seq_all tx c.in-Seq.txs c.deref-t-items.result.now c.in-Seq.is c.deref-t-items.ensures.value in
     let left = c.in_ok-left.ensures in
@@ -30,7 +30,7 @@ loop-t-init g t c =
 
 pub loop-t-preserved : goal.loop-t-preserved
 loop-t-preserved g t c =
-    let bad = is_bad (g.S.StoredSteps.arities c.args.steps.now) c.args.vars (names_of c.args.shapes.now) in
+    let bad = is_bad (g.S.StoredSteps.arities c.args.steps.now) c.args.vars (names_of c.args.signatures.now) in
     let items = c.deref-t-items.result.now in
     let at = c.loop-t.t-index in
     let tx = c.t-item.result in
@@ -49,7 +49,7 @@ loop-t-preserved g t c =
 
 pub returns-in_err-left-in-Seq-clause-lacking : goal.returns-in_err-left-in-Seq-clause-lacking
 returns-in_err-left-in-Seq-clause-lacking g t c = λ none deep nodes writes checks retires steps good.
-    let bad = is_bad (g.S.StoredSteps.arities c.args.steps.now) c.args.vars (names_of c.args.shapes.now) in
+    let bad = is_bad (g.S.StoredSteps.arities c.args.steps.now) c.args.vars (names_of c.args.signatures.now) in
     let items = c.deref-t-items.result.now in
     let at = c.loop-t.t-index in
     let tx = c.t-item.result in
@@ -95,7 +95,7 @@ returns-after-loop-t-clause-steps g t c =
 pub returns-after-loop-t-clause-good : goal.returns-after-loop-t-clause-good
 returns-after-loop-t-clause-good g t c =
     let none = drop_all c.loop-t.t-index c.deref-t-items.result.now (omega (arith, c.loop-t-test.false)) in
-    c.loop-t.invariant.good ∙ ap (count_items (is_bad (g.S.StoredSteps.arities c.args.steps.now) c.args.vars (names_of c.args.shapes.now))) none
+    c.loop-t.invariant.good ∙ ap (count_items (is_bad (g.S.StoredSteps.arities c.args.steps.now) c.args.vars (names_of c.args.signatures.now))) none
 
 pub returns-in_err-left-clause-shallow : goal.returns-in_err-left-clause-shallow
 returns-in_err-left-clause-shallow g t c = rw c.from_residual.ensures tt
@@ -183,14 +183,14 @@ returns-in_err-left-in-OrElse-clause-good g t c = rw c.from_residual-in_err-left
 
 pub returns-in_ok-left-in-When-clause-good : goal.returns-in_ok-left-in-When-clause-good
 returns-in_ok-left-in-When-clause-good g t c =
-    let bad = is_bad (g.S.StoredSteps.arities c.args.steps.now) c.args.vars (names_of c.args.shapes.now) in
+    let bad = is_bad (g.S.StoredSteps.arities c.args.steps.now) c.args.vars (names_of c.args.signatures.now) in
     let fine : bad c.args.tx.now ≡ false = said c.has_bad_part.ensures c.if-has_bad_part.false in
     let first : count bad c.in-When.then.value ≡ 0 = rw c.deref.ensures at c.in_ok-left-in-When.ensures.good in
     if_both c.pay-in-When-2.result (λ second. when_good bad c.args.tx.now c.in-When.reg c.in-When.then c.in-When.other c.in-When.is fine first second) (rw c.deref-in-When.ensures at c.pay-in-When-2.ensures.good)
 
 pub returns-in_ok-left-in-OrElse-clause-good : goal.returns-in_ok-left-in-OrElse-clause-good
 returns-in_ok-left-in-OrElse-clause-good g t c =
-    let bad = is_bad (g.S.StoredSteps.arities c.args.steps.now) c.args.vars (names_of c.args.shapes.now) in
+    let bad = is_bad (g.S.StoredSteps.arities c.args.steps.now) c.args.vars (names_of c.args.signatures.now) in
     let fine : bad c.args.tx.now ≡ false = said c.has_bad_part.ensures c.if-has_bad_part.false in
     let first : count bad c.in-OrElse.first.value ≡ 0 = rw c.deref-in-OrElse.ensures at c.in_ok-left-in-OrElse.ensures.good in
     if_both c.pay-in-OrElse-2.result (λ second. or_else_good bad c.args.tx.now c.in-OrElse.first c.in-OrElse.second c.in-OrElse.is fine first second) (rw c.deref-in-OrElse-2.ensures at c.pay-in-OrElse-2.ensures.good)
@@ -198,7 +198,7 @@ returns-in_ok-left-in-OrElse-clause-good g t c =
 pub returns-in_default : goal.returns-in_default
 returns-in_default g t c =
     let tx = c.args.tx.now in
-    let bad = is_bad (g.S.StoredSteps.arities c.args.steps.now) c.args.vars (names_of c.args.shapes.now) in
+    let bad = is_bad (g.S.StoredSteps.arities c.args.steps.now) c.args.vars (names_of c.args.signatures.now) in
     let fine : bad tx ≡ false = said c.has_bad_part.ensures c.if-has_bad_part.false in
     let one = one_node tx c.in_default.not-Seq c.in_default.not-When c.in_default.not-OrElse in
     let left = c.in_ok-left.ensures in
@@ -286,25 +286,25 @@ returns-in_ok-left-in-OrElse-clause-steps g t c =
 pub returns-in_err-left-in-When-clause-lacking : goal.returns-in_err-left-in-When-clause-lacking
 returns-in_err-left-in-When-clause-lacking g t c = λ none deep nodes writes checks retires steps good.
     let two = when_two c.args.tx.now c.in-When.reg c.in-When.then c.in-When.other c.in-When.is in
-    let bad = is_bad (g.S.StoredSteps.arities c.args.steps.now) c.args.vars (names_of c.args.shapes.now) in
+    let bad = is_bad (g.S.StoredSteps.arities c.args.steps.now) c.args.vars (names_of c.args.signatures.now) in
     (rw c.deref.ensures at c.in_err-left-in-When.ensures.lacking) refl (two.first_shallow c.args.most deep) (omega (arith, two.counts is_node, c.in_ok-left.ensures.nodes, nodes)) (omega (arith, two.counts is_write, c.in_ok-left.ensures.writes, writes)) (omega (arith, two.counts is_check, c.in_ok-left.ensures.checks, checks)) (omega (arith, two.counts is_retire, c.in_ok-left.ensures.retires, retires)) (omega (arith, two.counts is_step, c.in_ok-left.ensures.steps, steps)) (omega (arith, two.counts bad, good))
 
 pub returns-in_ok-left-in-When-clause-lacking : goal.returns-in_ok-left-in-When-clause-lacking
 returns-in_ok-left-in-When-clause-lacking g t c = λ none deep nodes writes checks retires steps good.
     let two = when_two c.args.tx.now c.in-When.reg c.in-When.then c.in-When.other c.in-When.is in
-    let bad = is_bad (g.S.StoredSteps.arities c.args.steps.now) c.args.vars (names_of c.args.shapes.now) in
+    let bad = is_bad (g.S.StoredSteps.arities c.args.steps.now) c.args.vars (names_of c.args.signatures.now) in
     (rw c.deref-in-When.ensures at c.pay-in-When-2.ensures.lacking) none (two.second_shallow c.args.most deep) (omega (arith, two.counts is_node, c.in_ok-left.ensures.nodes, rw c.deref.ensures at c.in_ok-left-in-When.ensures.nodes, nodes)) (omega (arith, two.counts is_write, c.in_ok-left.ensures.writes, rw c.deref.ensures at c.in_ok-left-in-When.ensures.writes, writes)) (omega (arith, two.counts is_check, c.in_ok-left.ensures.checks, rw c.deref.ensures at c.in_ok-left-in-When.ensures.checks, checks)) (omega (arith, two.counts is_retire, c.in_ok-left.ensures.retires, rw c.deref.ensures at c.in_ok-left-in-When.ensures.retires, retires)) (omega (arith, two.counts is_step, c.in_ok-left.ensures.steps, rw c.deref.ensures at c.in_ok-left-in-When.ensures.steps, steps)) (omega (arith, two.counts bad, good))
 
 pub returns-in_err-left-in-OrElse-clause-lacking : goal.returns-in_err-left-in-OrElse-clause-lacking
 returns-in_err-left-in-OrElse-clause-lacking g t c = λ none deep nodes writes checks retires steps good.
     let two = or_else_two c.args.tx.now c.in-OrElse.first c.in-OrElse.second c.in-OrElse.is in
-    let bad = is_bad (g.S.StoredSteps.arities c.args.steps.now) c.args.vars (names_of c.args.shapes.now) in
+    let bad = is_bad (g.S.StoredSteps.arities c.args.steps.now) c.args.vars (names_of c.args.signatures.now) in
     (rw c.deref-in-OrElse.ensures at c.in_err-left-in-OrElse.ensures.lacking) refl (two.first_shallow c.args.most deep) (omega (arith, two.counts is_node, c.in_ok-left.ensures.nodes, nodes)) (omega (arith, two.counts is_write, c.in_ok-left.ensures.writes, writes)) (omega (arith, two.counts is_check, c.in_ok-left.ensures.checks, checks)) (omega (arith, two.counts is_retire, c.in_ok-left.ensures.retires, retires)) (omega (arith, two.counts is_step, c.in_ok-left.ensures.steps, steps)) (omega (arith, two.counts bad, good))
 
 pub returns-in_ok-left-in-OrElse-clause-lacking : goal.returns-in_ok-left-in-OrElse-clause-lacking
 returns-in_ok-left-in-OrElse-clause-lacking g t c = λ none deep nodes writes checks retires steps good.
     let two = or_else_two c.args.tx.now c.in-OrElse.first c.in-OrElse.second c.in-OrElse.is in
-    let bad = is_bad (g.S.StoredSteps.arities c.args.steps.now) c.args.vars (names_of c.args.shapes.now) in
+    let bad = is_bad (g.S.StoredSteps.arities c.args.steps.now) c.args.vars (names_of c.args.signatures.now) in
     (rw c.deref-in-OrElse-2.ensures at c.pay-in-OrElse-2.ensures.lacking) none (two.second_shallow c.args.most deep) (omega (arith, two.counts is_node, c.in_ok-left.ensures.nodes, rw c.deref-in-OrElse.ensures at c.in_ok-left-in-OrElse.ensures.nodes, nodes)) (omega (arith, two.counts is_write, c.in_ok-left.ensures.writes, rw c.deref-in-OrElse.ensures at c.in_ok-left-in-OrElse.ensures.writes, writes)) (omega (arith, two.counts is_check, c.in_ok-left.ensures.checks, rw c.deref-in-OrElse.ensures at c.in_ok-left-in-OrElse.ensures.checks, checks)) (omega (arith, two.counts is_retire, c.in_ok-left.ensures.retires, rw c.deref-in-OrElse.ensures at c.in_ok-left-in-OrElse.ensures.retires, retires)) (omega (arith, two.counts is_step, c.in_ok-left.ensures.steps, rw c.deref-in-OrElse.ensures at c.in_ok-left-in-OrElse.ensures.steps, steps)) (omega (arith, two.counts bad, good))
 
 pub returns-in_err-left-clause-lacking : goal.returns-in_err-left-clause-lacking

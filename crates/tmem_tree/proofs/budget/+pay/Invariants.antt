@@ -1,14 +1,14 @@
 use Rattle.std.proofs.Common.{◌≡◌, ◌+◌, ◌≤◌, drop}
 use Rattle.std.specs.Prelude.{◌↔◌}
 use Rattle.tmem_tree.specs.Limits.{depth, count, is_node, is_write, is_check, is_retire, is_step}
-use Rattle.tmem_tree.specs.Shapes.{names_of}
+use Rattle.tmem_tree.specs.Signatures.{names_of}
 use Rattle.tmem_tree.specs.Plans.{is_bad}
 use Rattle.tmem_tree.proofs.Laws.{depth_items, count_items}
 use Rattle.tmem_tree.proofs.budget.+pay.Given as goal
 
 abbrev pub invariant-loop-t : goal.invariant-loop-t
 invariant-loop-t g l =
-    let bad = is_bad (g.S.StoredSteps.arities l.steps) l.vars (names_of l.shapes) in
+    let bad = is_bad (g.S.StoredSteps.arities l.steps) l.vars (names_of l.signatures) in
     let rest = drop l.t-index l.t-items in
     record {
       shallow : (depth l.tx ≤ l.most) ↔ (depth_items rest + 1 ≤ l.most);

@@ -2,7 +2,7 @@ use Rattle.std.proofs.Common.{◌≡◌, ◌+◌, drop, sym, ap, refl, arith}
 use Rattle.std.proofs.lemmas.Bool.{false≢true}
 use Rattle.std.proofs.lemmas.List.{drop_all}
 use Rattle.tmem_tree.specs.Limits.{one_if, count}
-use Rattle.tmem_tree.specs.Shapes.{names_of}
+use Rattle.tmem_tree.specs.Signatures.{names_of}
 use Rattle.tmem_tree.specs.Plans.{is_counted}
 use Rattle.tmem_tree.proofs.Laws.{count_items}
 use Rattle.tmem_tree.proofs.Known.{count_items-drop_more}
@@ -13,7 +13,7 @@ use Rattle.tmem_tree.proofs.limits.+spend.Goals.{then-is_counted+in_ok-left, els
 
 pub loop-t-init : goal.loop-t-init
 loop-t-init g t c =
-    let test = is_counted c.args.cause (g.S.StoredSteps.arities c.args.steps.now) c.args.vars (names_of c.args.shapes.now) in
+    let test = is_counted c.args.cause (g.S.StoredSteps.arities c.args.steps.now) c.args.vars (names_of c.args.signatures.now) in
     let here : c.if-is_counted.left + one_if (test c.args.tx.now) ≡ c.args.budget =
     elim c.if-is_counted.branch [
       | then-is_counted+in_ok-left w ↦ omega (arith, w.left-is, w.in_ok-left.ensures, costs c.is_counted.ensures w.if-is_counted.true)
@@ -25,7 +25,7 @@ loop-t-init g t c =
 
 pub loop-t-preserved : goal.loop-t-preserved
 loop-t-preserved g t c =
-    let test = is_counted c.args.cause (g.S.StoredSteps.arities c.args.steps.now) c.args.vars (names_of c.args.shapes.now) in
+    let test = is_counted c.args.cause (g.S.StoredSteps.arities c.args.steps.now) c.args.vars (names_of c.args.signatures.now) in
     let items = c.deref-t-items.result.now in
     let at = c.loop-t.t-index in
     let was : c.loop-t.left + count test c.args.tx.now ≡ c.args.budget + count_items test (drop at items) = c.loop-t.invariant in
@@ -35,7 +35,7 @@ loop-t-preserved g t c =
 
 pub returns-in_err-left-in-Seq : goal.returns-in_err-left-in-Seq
 returns-in_err-left-in-Seq g t c =
-    let test = is_counted c.args.cause (g.S.StoredSteps.arities c.args.steps.now) c.args.vars (names_of c.args.shapes.now) in
+    let test = is_counted c.args.cause (g.S.StoredSteps.arities c.args.steps.now) c.args.vars (names_of c.args.signatures.now) in
     let items = c.deref-t-items.result.now in
     let at = c.loop-t.t-index in
     let was : c.loop-t.left + count test c.args.tx.now ≡ c.args.budget + count_items test (drop at items) = c.loop-t.invariant in
@@ -46,7 +46,7 @@ returns-in_err-left-in-Seq g t c =
 
 pub returns-after-loop-t : goal.returns-after-loop-t
 returns-after-loop-t g t c =
-    let test = is_counted c.args.cause (g.S.StoredSteps.arities c.args.steps.now) c.args.vars (names_of c.args.shapes.now) in
+    let test = is_counted c.args.cause (g.S.StoredSteps.arities c.args.steps.now) c.args.vars (names_of c.args.signatures.now) in
     let items = c.deref-t-items.result.now in
     let none = drop_all c.loop-t.t-index items c.loop-t-test.false in
     let was : c.loop-t.left + count test c.args.tx.now ≡ c.args.budget + count_items test (drop c.loop-t.t-index items) = c.loop-t.invariant in
@@ -57,7 +57,7 @@ returns-after-loop-t g t c =
 
 pub returns-in_default : goal.returns-in_default
 returns-in_default g t c =
-    let test = is_counted c.args.cause (g.S.StoredSteps.arities c.args.steps.now) c.args.vars (names_of c.args.shapes.now) in
+    let test = is_counted c.args.cause (g.S.StoredSteps.arities c.args.steps.now) c.args.vars (names_of c.args.signatures.now) in
     let here : c.if-is_counted.left + one_if (test c.args.tx.now) ≡ c.args.budget =
     elim c.if-is_counted.branch [
       | then-is_counted+in_ok-left w ↦ omega (arith, w.left-is, w.in_ok-left.ensures, costs c.is_counted.ensures w.if-is_counted.true)
@@ -71,7 +71,7 @@ returns-in_default g t c =
 
 pub returns-in_err-left-in-When : goal.returns-in_err-left-in-When
 returns-in_err-left-in-When g t c =
-    let test = is_counted c.args.cause (g.S.StoredSteps.arities c.args.steps.now) c.args.vars (names_of c.args.shapes.now) in
+    let test = is_counted c.args.cause (g.S.StoredSteps.arities c.args.steps.now) c.args.vars (names_of c.args.signatures.now) in
     let here : c.if-is_counted.left + one_if (test c.args.tx.now) ≡ c.args.budget =
     elim c.if-is_counted.branch [
       | then-is_counted+in_ok-left w ↦ omega (arith, w.left-is, w.in_ok-left.ensures, costs c.is_counted.ensures w.if-is_counted.true)
@@ -85,7 +85,7 @@ returns-in_err-left-in-When g t c =
 
 pub returns-in_ok-left-in-When : goal.returns-in_ok-left-in-When
 returns-in_ok-left-in-When g t c =
-    let test = is_counted c.args.cause (g.S.StoredSteps.arities c.args.steps.now) c.args.vars (names_of c.args.shapes.now) in
+    let test = is_counted c.args.cause (g.S.StoredSteps.arities c.args.steps.now) c.args.vars (names_of c.args.signatures.now) in
     let here : c.if-is_counted.left + one_if (test c.args.tx.now) ≡ c.args.budget =
     elim c.if-is_counted.branch [
       | then-is_counted+in_ok-left w ↦ omega (arith, w.left-is, w.in_ok-left.ensures, costs c.is_counted.ensures w.if-is_counted.true)
@@ -100,7 +100,7 @@ returns-in_ok-left-in-When g t c =
 
 pub returns-in_err-left-in-OrElse : goal.returns-in_err-left-in-OrElse
 returns-in_err-left-in-OrElse g t c =
-    let test = is_counted c.args.cause (g.S.StoredSteps.arities c.args.steps.now) c.args.vars (names_of c.args.shapes.now) in
+    let test = is_counted c.args.cause (g.S.StoredSteps.arities c.args.steps.now) c.args.vars (names_of c.args.signatures.now) in
     let here : c.if-is_counted.left + one_if (test c.args.tx.now) ≡ c.args.budget =
     elim c.if-is_counted.branch [
       | then-is_counted+in_ok-left w ↦ omega (arith, w.left-is, w.in_ok-left.ensures, costs c.is_counted.ensures w.if-is_counted.true)
@@ -114,7 +114,7 @@ returns-in_err-left-in-OrElse g t c =
 
 pub returns-in_ok-left-in-OrElse : goal.returns-in_ok-left-in-OrElse
 returns-in_ok-left-in-OrElse g t c =
-    let test = is_counted c.args.cause (g.S.StoredSteps.arities c.args.steps.now) c.args.vars (names_of c.args.shapes.now) in
+    let test = is_counted c.args.cause (g.S.StoredSteps.arities c.args.steps.now) c.args.vars (names_of c.args.signatures.now) in
     let here : c.if-is_counted.left + one_if (test c.args.tx.now) ≡ c.args.budget =
     elim c.if-is_counted.branch [
       | then-is_counted+in_ok-left w ↦ omega (arith, w.left-is, w.in_ok-left.ensures, costs c.is_counted.ensures w.if-is_counted.true)

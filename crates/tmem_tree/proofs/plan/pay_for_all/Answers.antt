@@ -3,7 +3,7 @@ use Rattle.std.specs.Prelude.{◌↔◌, IsSome, IfSome, IsNone}
 use Rattle.tmem_tree.specs.declared.tx.Tx.{Tx}
 use Rattle.tmem_tree.specs.declared.budget.Budget.{Budget}
 use Rattle.tmem_tree.specs.Limits.{depth, count, is_node, is_write, is_check, is_retire, is_step}
-use Rattle.tmem_tree.specs.Shapes.{names_of}
+use Rattle.tmem_tree.specs.Signatures.{names_of}
 use Rattle.tmem_tree.specs.Plans.{BreaksNone, is_bad}
 use Rattle.tmem_tree.proofs.Plans.{breaks_none, are_within, steps_are_nodes}
 use Rattle.tmem_tree.proofs.plan.pay_for_all.Goals as goal
@@ -29,4 +29,4 @@ told arities vars names tx None shallow nodes writes checks retires good lacking
 pub returns-clause-fine : goal.returns-clause-fine
 returns-clause-fine g c =
     let e = c.pay.ensures in
-    told (g.S.StoredSteps.arities c.args.steps.now) c.args.vars (names_of c.args.shapes.now) c.args.tx.now c.pay.result e.shallow e.nodes e.writes e.checks e.retires e.good e.lacking
+    told (g.S.StoredSteps.arities c.args.steps.now) c.args.vars (names_of c.args.signatures.now) c.args.tx.now c.pay.result e.shallow e.nodes e.writes e.checks e.retires e.good e.lacking

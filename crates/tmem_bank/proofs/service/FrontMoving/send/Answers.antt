@@ -11,5 +11,5 @@ loop-turn-preserved g c = record {
   steps = c.pays_more.ensures.steps (g.S.StoredSteps.arities c.args.self.now.steps) c.loop-turn.invariant.steps;
   variables = c.pays_more.ensures.variables c.args.self.now.vars c.loop-turn.invariant.variables;
   names = c.pays_more.ensures.names g.N.ProgramNaming.program.names c.loop-turn.invariant.names;
-  shapes = c.pays_more.ensures.shapes g.N.ProgramNaming.program.tests c.loop-turn.invariant.shapes;
+  signatures = c.pays_more.ensures.signatures g.N.ProgramNaming.program.tests c.loop-turn.invariant.signatures;
 }

@@ -21,11 +21,11 @@ peek-value-requires g c =
 pub probe-held-requires : goal.probe-held-requires
 probe-held-requires g c =
     let program = g.N.ProgramNaming.program in
-    let shapes = c.args.plan.now.shapes in
-    let filled = subst (λ p. IsFilled shapes (outcome_of c.advance.new.self p)) c.in-Probe.is c.in_ok-var.ensures.filled in
+    let signatures = c.args.plan.now.signatures in
+    let filled = subst (λ p. IsFilled signatures (outcome_of c.advance.new.self p)) c.in-Probe.is c.in_ok-var.ensures.filled in
     record {
       named = rw c.probe.ensures (subst (λ p. IsNamed program.names (outcome_of c.advance.new.self p)) c.in-Probe.is (c.in_ok-var.ensures.named program.names c.requires.names));
-      filled = rw c.probe.ensures (filled.1 ∙ ap length (footprint_in-AreMeant program.tests shapes (probe_of c.advance.new.self).name c.requires.shapes filled.0));
+      filled = rw c.probe.ensures (filled.1 ∙ ap length (footprint_in-AreMeant program.tests signatures (probe_of c.advance.new.self).name c.requires.signatures filled.0));
     }
 
 pub returns-in-Ended : goal.returns-in-Ended
@@ -36,7 +36,7 @@ returns-in-Ended g c =
     let within = subst (λ p. IsWithinVariables front.vars (outcome_of self p)) c.in-Ended.is (c.in_ok-var.ensures.within front.vars c.requires.variables) in
     record {
       ended = subst (λ p. Answered self p) c.in-Ended.is c.in_ok-var.ensures.answered;
-      right = λ m stated. (subst (λ p. IsOutcome m program.tests c.args.plan.now.tree (given self) (length (answers self)) (outcome_of self p)) c.in-Ended.is (c.in_ok-var.ensures.right m program.tests stated c.requires.shapes (c.loop.invariant.at m stated))).1;
+      right = λ m stated. (subst (λ p. IsOutcome m program.tests c.args.plan.now.tree (given self) (length (answers self)) (outcome_of self p)) c.in-Ended.is (c.in_ok-var.ensures.right m program.tests stated c.requires.signatures (c.loop.invariant.at m stated))).1;
       variables = subst (λ (k : ℕ). IsForVariables k (attempt_of self)) front.over within;
       names = subst (λ p. IsNamed program.names (outcome_of self p)) c.in-Ended.is (c.in_ok-var.ensures.named program.names c.requires.names);
       memory = tt;
@@ -57,7 +57,7 @@ loop-preserved-in-Need g c =
     let tests = g.N.ProgramNaming.program.tests in
     record {
       stands = λ m stated. c.give.ensures.stands m c.args.plan.now (c.advance.ensures.stands m stated);
-      at = λ m stated. c.give.ensures.at m tests c.args.plan.now.tree (c.advance.ensures.at m tests stated c.requires.shapes (c.loop.invariant.at m stated));
+      at = λ m stated. c.give.ensures.at m tests c.args.plan.now.tree (c.advance.ensures.at m tests stated c.requires.signatures (c.loop.invariant.at m stated));
     }
 
 pub advance-requires-clause-stands : goal.advance-requires-clause-stands
@@ -68,7 +68,7 @@ loop-preserved g c =
     let tests = g.N.ProgramNaming.program.tests in
     record {
       stands = λ m stated. c.answer.ensures.stands m c.args.plan.now (c.advance.ensures.stands m stated);
-      at = λ m stated. c.answer.ensures.at m tests c.args.plan.now.tree (c.advance.ensures.at m tests stated c.requires.shapes (c.loop.invariant.at m stated)) (c.probe-held.ensures ∙ ap (λ p. tests.test p.name p.values) c.probe.ensures);
+      at = λ m stated. c.answer.ensures.at m tests c.args.plan.now.tree (c.advance.ensures.at m tests stated c.requires.signatures (c.loop.invariant.at m stated)) (c.probe-held.ensures ∙ ap (λ p. tests.test p.name p.values) c.probe.ensures);
     }
 
 pub give-requires : goal.give-requires

@@ -15,19 +15,19 @@ peek-value-requires g c =
 pub probe-held-requires : goal.probe-held-requires
 probe-held-requires g c =
     let program = g.N.ProgramNaming.program in
-    let shapes = c.args.plan.now.shapes in
-    let filled = subst (λ p. IsFilled shapes (outcome_of c.advance.new.self p)) c.in-Probe.is c.in_ok-var.ensures.filled in
+    let signatures = c.args.plan.now.signatures in
+    let filled = subst (λ p. IsFilled signatures (outcome_of c.advance.new.self p)) c.in-Probe.is c.in_ok-var.ensures.filled in
     record {
       named = rw c.probe.ensures (subst (λ p. IsNamed program.names (outcome_of c.advance.new.self p)) c.in-Probe.is (c.in_ok-var.ensures.named program.names c.requires.names));
-      filled = rw c.probe.ensures (filled.1 ∙ ap length (footprint_in-AreMeant program.tests shapes (probe_of c.advance.new.self).name c.requires.shapes filled.0));
+      filled = rw c.probe.ensures (filled.1 ∙ ap length (footprint_in-AreMeant program.tests signatures (probe_of c.advance.new.self).name c.requires.signatures filled.0));
     }
 
 pub loop-preserved : goal.loop-preserved
 loop-preserved g c =
-    let shapes = c.args.plan.now.shapes in
+    let signatures = c.args.plan.now.signatures in
     let footprint = g.N.ProgramNaming.program.tests.footprint in
-    let filled = subst (λ p. IsFilled shapes (outcome_of c.advance.new.self p)) c.in-Probe.is c.in_ok-var.ensures.filled in
-    let long = filled.1 ∙ ap length (footprint_in-AreMeant g.N.ProgramNaming.program.tests shapes (probe_of c.advance.new.self).name c.requires.shapes filled.0) in
+    let filled = subst (λ p. IsFilled signatures (outcome_of c.advance.new.self p)) c.in-Probe.is c.in_ok-var.ensures.filled in
+    let long = filled.1 ∙ ap length (footprint_in-AreMeant g.N.ProgramNaming.program.tests signatures (probe_of c.advance.new.self).name c.requires.signatures filled.0) in
     record {
       stands = λ m stated. c.answer.ensures.stands m c.args.plan.now (c.advance.ensures.stands m stated);
       filled = some_filled c.failed_values-failed.result c.probe-in-Probe.result.now.values c.probe-in-Probe.result.now.name c.args.name.now footprint c.failed_values-failed.ensures.values (rw c.probe-in-Probe.ensures long);

@@ -2,7 +2,7 @@ use Rattle.std.proofs.Common.{◌≡◌, ℕ, List, IfOk, IfErr, ap, sym, ◌∙
 use Rattle.tmem_fault.specs.declared.fault.Cause.{Cause}
 use Rattle.tmem_fault.specs.declared.fault.Fault.TheVariants.{BadPlan}
 use Rattle.tmem_tree.specs.Plans.{BreaksNone, IsLeastBroken}
-use Rattle.tmem_tree.specs.Shapes.{AreMeant, names_of}
+use Rattle.tmem_tree.specs.Signatures.{AreMeant, names_of}
 use Rattle.tmem_front.proofs.Planned.{for_names, for_steps}
 use Rattle.tmem_front.proofs.front.Front.plan.Goals as goal
 
@@ -24,7 +24,7 @@ returns-clause-least g c =
     let front = c.args.self.now in
     subst (λ (names : List (List ℕ)). IfErr c.new.result (λ fault. (cause : Cause) × (fault ≡ BadPlan cause) × IsLeastBroken (g.S.StoredSteps.arities front.steps) front.vars names c.args.tx cause)) (ap names_of c.deref.ensures.value ∙ front.named) c.new.ensures.least
 
-pub returns-clause-shapes : goal.returns-clause-shapes
-returns-clause-shapes g c =
+pub returns-clause-signatures : goal.returns-clause-signatures
+returns-clause-signatures g c =
     let tests = g.N.ProgramNaming.program.tests in
-    c.new.ensures.shapes tests (subst (λ shapes. AreMeant tests shapes) (sym c.deref.ensures.value) c.args.self.now.meant)
+    c.new.ensures.signatures tests (subst (λ signatures. AreMeant tests signatures) (sym c.deref.ensures.value) c.args.self.now.meant)

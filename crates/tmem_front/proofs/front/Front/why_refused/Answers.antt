@@ -6,14 +6,14 @@ use Rattle.tmem_front.proofs.front.Front.why_refused.Goals as goal
 pub told_where_false-requires-clause-named : goal.told_where_false-requires-clause-named
 told_where_false-requires-clause-named g c =
     let names = g.N.ProgramNaming.program.names in
-    let shape = c.in-Some.shape.now in
-    named_among c.deref.result.now shape names c.in-Some.ensures.among (rw c.deref.ensures.value c.args.self.now.named)
+    let signature = c.in-Some.signature.now in
+    named_among c.deref.result.now signature names c.in-Some.ensures.among (rw c.deref.ensures.value c.args.self.now.named)
 
 pub told_where_false-requires-clause-meant : goal.told_where_false-requires-clause-meant
 told_where_false-requires-clause-meant g c =
     let tests = g.N.ProgramNaming.program.tests in
-    let shape = c.in-Some.shape.now in
-    meant_among tests c.deref.result.now shape (rw c.deref.ensures.value c.args.self.now.meant) c.in-Some.ensures.among
+    let signature = c.in-Some.signature.now in
+    meant_among tests c.deref.result.now signature (rw c.deref.ensures.value c.args.self.now.meant) c.in-Some.ensures.among
 
 pub returns-in_default : goal.returns-in_default
 returns-in_default g c = record { why = tt; knows = search rules; memory = tt }

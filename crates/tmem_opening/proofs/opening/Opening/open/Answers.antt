@@ -3,7 +3,7 @@ use Rattle.tmem_disk.specs.Disk.{LeavesOnly, SameDevice}
 use Rattle.tmem_fault.specs.declared.fault.Fault.TheVariants as fault
 use Rattle.tmem_effect.specs.State.{State}
 use Rattle.tmem_invariants.specs.Meanings.{IsSound}
-use Rattle.tmem_tree.specs.Shapes.{AreWithin}
+use Rattle.tmem_tree.specs.Signatures.{AreWithin}
 use Rattle.tmem_core.specs.Opening.{opening_fault}
 use Rattle.tmem_core.specs.Program.{IsProgramOf}
 use Rattle.tmem_journal.specs.Contents.{ContentRepresents}
@@ -101,7 +101,7 @@ invariant_of-result g c =
       sure = opened.fresh.1;
       named = made.named ∙ sym (ap (λ t. g.T.Invariants.names t) table);
       meant = λ m stated. made.meant m (subst (λ t. g.T.Invariants.is_stated t m) table stated);
-      within = subst (λ (n : ℕ). AreWithin n c.in-Ok-made.shapes.items) (sym values) made.within;
+      within = subst (λ (n : ℕ). AreWithin n c.in-Ok-made.signatures.items) (sym values) made.within;
     }
 
 pub new-requires : goal.new-requires

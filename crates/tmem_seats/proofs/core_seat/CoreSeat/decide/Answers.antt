@@ -20,8 +20,8 @@ pub decide-decision-requires-clause-variables : goal.decide-decision-requires-cl
 decide-decision-requires-clause-variables g c =
     let opening = g.N.StoreNaming.opening in
     let was = c.self.invariant in
-    let same : length (core_state c.note_durable.new.self).values ≡ length opening.values =
-    ap (λ (v : core.CoreView _). length v.state.values) c.note_durable.ensures ∙ ap (λ (s : State). length s.values) was.state ∙ values-after opening c.self.inside.side.committed in
+    let same : length (core_state c.learn_durable.new.self).values ≡ length opening.values =
+    ap (λ (v : core.CoreView _). length v.state.values) c.learn_durable.ensures ∙ ap (λ (s : State). length s.values) was.state ∙ values-after opening c.self.inside.side.committed in
     rw same c.requires.variables
 
 pub enter-requires-clause-room : goal.enter-requires-clause-room
@@ -30,7 +30,7 @@ enter-requires-clause-room g c =
     let side = c.self.inside.side in
     let es = taken_by c.decide-decision.result c.args.attempt.now in
     let more : (core_state c.decide-decision.new.self).count ≡ (core_state c.self.inside.core).count + length es =
-    ap (λ (v : core.CoreView _). v.state.count) (c.decide-decision.ensures.settles.view ∙ ap (committing es) c.note_durable.ensures) ∙ count-fold (core_state c.self.inside.core) es in
+    ap (λ (v : core.CoreView _). v.state.count) (c.decide-decision.ensures.settles.view ∙ ap (committing es) c.learn_durable.ensures) ∙ count-fold (core_state c.self.inside.core) es in
     omega (arith, c.decide-decision.new.self.countable, more, ap (λ (s : State). s.count) was.state, count-after g.N.StoreNaming.opening g.N.Naming.name.start side.committed was.starts, ap (λ (v : CoreRoleView). length v.committed) c.trim-durable.ensures.core)
 
 pub invariant_of-self : goal.invariant_of-self
@@ -38,19 +38,19 @@ invariant_of-self g c =
     let d = c.decide-decision.result in
     let a = c.args.attempt.now in
     core_settled g.N.Naming.name.start g.N.StoreNaming.opening g.N.ProgramNaming.program c.self.inside.core c.decide-decision.new.self c.self.inside.side c.enter.new.side c.trim-durable.new.pass.mark c.trim-durable.result d a c.self.invariant
-    (c.decide-decision.ensures.settles.view ∙ ap (committing (taken_by d a)) c.note_durable.ensures) c.trim-durable.ensures.least.0 c.trim-durable.ensures.most
+    (c.decide-decision.ensures.settles.view ∙ ap (committing (taken_by d a)) c.learn_durable.ensures) c.trim-durable.ensures.least.0 c.trim-durable.ensures.most
     (c.enter.ensures.side ∙ ap (λ (v : CoreRoleView). record v { committed = v.committed ++ marked c.trim-durable.new.pass.mark (taken_by d a) }) c.trim-durable.ensures.core)
 
 -- what is answered by the core that learned how many are durable, by what its seat showed before
-as_seen : (g : _) (c : goal.After-enter g) (F : Bool → State → ℕ → Result Settled Fault) → F (is_shut_of c.note_durable.new.self) (core_state c.note_durable.new.self) (durable_of c.note_durable.new.self)
+as_seen : (g : _) (c : goal.After-enter g) (F : Bool → State → ℕ → Result Settled Fault) → F (is_shut_of c.learn_durable.new.self) (core_state c.learn_durable.new.self) (durable_of c.learn_durable.new.self)
     ≡ F c.args.self.now.is_shut (state_after_history g.N.StoreNaming.opening c.args.self.now.committed) c.enter.new.side.trimmed
 as_seen g c F =
-    ap (λ (v : core.CoreView _). F v.is_shut v.state v.durable) c.note_durable.ensures ∙ ap (λ (s : State). F (is_shut_of c.self.inside.core) s c.trim-durable.result) c.self.invariant.state
+    ap (λ (v : core.CoreView _). F v.is_shut v.state v.durable) c.learn_durable.ensures ∙ ap (λ (s : State). F (is_shut_of c.self.inside.core) s c.trim-durable.result) c.self.invariant.state
     ∙ ap (λ (v : CoreSeatView). F v.is_shut (state_after_history g.N.StoreNaming.opening v.committed) c.trim-durable.result) c.self.view_is
     ∙ sym (ap (λ (v : CoreRoleView). F c.args.self.now.is_shut (state_after_history g.N.StoreNaming.opening c.args.self.now.committed) v.trimmed) (c.enter.ensures.side ∙ ap (λ (v : CoreRoleView). record v { committed = v.committed ++ marked c.trim-durable.new.pass.mark (taken_by c.decide-decision.result c.args.attempt.now) }) c.trim-durable.ensures.core))
 
-its_program : (g : _) (c : goal.After-enter g) → IsProgramOf g.T.Invariants (core_table c.note_durable.new.self) g.N.ProgramNaming.program
-its_program g c = subst (λ x. IsProgramOf g.T.Invariants x g.N.ProgramNaming.program) (sym (ap (λ (v : core.CoreView _). v.table) c.note_durable.ensures)) c.self.invariant.table
+its_program : (g : _) (c : goal.After-enter g) → IsProgramOf g.T.Invariants (core_table c.learn_durable.new.self) g.N.ProgramNaming.program
+its_program g c = subst (λ x. IsProgramOf g.T.Invariants x g.N.ProgramNaming.program) (sym (ap (λ (v : core.CoreView _). v.table) c.learn_durable.ensures)) c.self.invariant.table
 
 pub returns-clause-decided : goal.returns-clause-decided
 returns-clause-decided g c =
@@ -70,6 +70,6 @@ pub returns-clause-retries : goal.returns-clause-retries
 returns-clause-retries g c =
     let start = g.N.Naming.name.start in
     let opening = g.N.StoreNaming.opening in
-    let state = ap (λ (v : core.CoreView _). v.state) c.note_durable.ensures ∙ c.self.invariant.state in
+    let state = ap (λ (v : core.CoreView _). v.state) c.learn_durable.ensures ∙ c.self.invariant.state in
     let many = ap (λ (s : State). s.count) state ∙ count-after opening start c.self.inside.side.committed c.self.invariant.starts ∙ ap (λ (v : CoreSeatView). count start v.committed) c.self.view_is in
     subst (λ (n : ℕ). RetriesAt n c.decide-decision.result) many c.decide-decision.ensures.retries

@@ -17,17 +17,17 @@ use Rattle.tmem_seats.proofs.Taken.{goes_on}
 use Rattle.tmem_seats.proofs.core_seat.CoreSeat.take.Goals as goal
 
 -- the core's state, after it learned how many are durable
-its_state : (g : _) (c : goal.After-aim g) → core_state c.note_durable.new.self ≡ state_after_history g.N.StoreNaming.opening c.self.inside.side.committed
-its_state g c = ap (λ (v : core.CoreView _). v.state) c.note_durable.ensures ∙ c.self.invariant.state
+its_state : (g : _) (c : goal.After-aim g) → core_state c.learn_durable.new.self ≡ state_after_history g.N.StoreNaming.opening c.self.inside.side.committed
+its_state g c = ap (λ (v : core.CoreView _). v.state) c.learn_durable.ensures ∙ c.self.invariant.state
 
 -- what waits in it then
-its_waiting : (g : _) (c : goal.After-aim g) → drop (c.trim_beside-durable.result - durable_of c.note_durable.new.self) (waiting_of c.note_durable.new.self)
+its_waiting : (g : _) (c : goal.After-aim g) → drop (c.trim_beside-durable.result - durable_of c.learn_durable.new.self) (waiting_of c.learn_durable.new.self)
     ≡ drop (length c.args.journal.now.durable) (unmarked c.self.inside.side.committed)
 its_waiting g c =
     let was = c.self.invariant in
     let trim = c.trim_beside-durable.ensures in
-    drop_again g.N.Naming.name.start c.trim_beside-durable.result (durable_of c.note_durable.new.self) c.self.inside.side.trimmed (durable_of c.self.inside.core) c.args.journal.now.durable (waiting_of c.note_durable.new.self) (waiting_of c.self.inside.core) (unmarked c.self.inside.side.committed)
-    (ap (λ (v : core.CoreView _). v.durable) c.note_durable.ensures) trim.exact was.trimmed was.late trim.least (ap (λ (v : core.CoreView _). v.waiting) c.note_durable.ensures) was.waits
+    drop_again g.N.Naming.name.start c.trim_beside-durable.result (durable_of c.learn_durable.new.self) c.self.inside.side.trimmed (durable_of c.self.inside.core) c.args.journal.now.durable (waiting_of c.learn_durable.new.self) (waiting_of c.self.inside.core) (unmarked c.self.inside.side.committed)
+    (ap (λ (v : core.CoreView _). v.durable) c.learn_durable.ensures) trim.exact was.trimmed was.late trim.least (ap (λ (v : core.CoreView _). v.waiting) c.learn_durable.ensures) was.waits
 
 its_aim : (g : _) (c : goal.After-aim g) → IsPrefix c.aim.new.journal.aimed c.self.inside.side.committed
 its_aim g c = subst (λ (l : List MarkedEffect). IsPrefix c.aim.new.journal.aimed l) (ap (λ (v : CoreRoleView). v.committed) c.trim_beside-durable.ensures.core) c.aim.ensures.ahead
@@ -43,7 +43,7 @@ returns-clause-goes_on g c =
     let long : length aimed ≡ length durable + length batch = omega (arith, c.aim.ensures.number, c.trim_beside-durable.ensures.exact, c.len.ensures.len) in
     goes_on g.N.Naming.name.start opening committed durable aimed batch _ c.trim_beside-durable.ensures.begins begins (its_aim g c) long (sym (its_waiting g c) ∙ c.take.ensures.rest) c.take.ensures.few
     (subst (λ (k : ℕ). All (IsLoggable k) batch) (ap (λ (s : State). length s.values) (its_state g c) ∙ values-after opening committed) c.take.ensures.each)
-    (omega (arith, c.note_durable.new.self.countable, c.take.ensures.reached, c.aim.ensures.number, c.len.ensures.len))
+    (omega (arith, c.learn_durable.new.self.countable, c.take.ensures.reached, c.aim.ensures.number, c.len.ensures.len))
     c.self.invariant.within
 
 pub returns-clause-oldest : goal.returns-clause-oldest
@@ -55,7 +55,7 @@ returns-clause-oldest g c =
       ahead = subst (λ (l : List MarkedEffect). IsPrefix c.aim.new.journal.aimed l) view (its_aim g c);
       oldest = subst (λ (l : List MarkedEffect). IsTaken (drop (length c.args.journal.now.durable) (unmarked l)) c.take.new.batch) view (subst (λ (l : List Effect). IsTaken l c.take.new.batch) (its_waiting g c) c.take.ensures.taken);
       some = λ lt.
-          let many : (core_state c.note_durable.new.self).count ≡ count start committed = ap (λ (s : State). s.count) (its_state g c) ∙ count-after g.N.StoreNaming.opening start committed c.self.invariant.starts in
+          let many : (core_state c.learn_durable.new.self).count ≡ count start committed = ap (λ (s : State). s.count) (its_state g c) ∙ count-after g.N.StoreNaming.opening start committed c.self.invariant.starts in
           let same = ap (λ (l : List MarkedEffect). length l) view in
           let exact = c.trim_beside-durable.ensures.exact in
           c.take.ensures.some (omega arith);

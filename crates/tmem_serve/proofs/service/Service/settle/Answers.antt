@@ -45,8 +45,8 @@ try_atomically-requires-clause-variables g c = subst (λ (n : ℕ). FitsVariable
 pub try_atomically-requires-clause-names : goal.try_atomically-requires-clause-names
 try_atomically-requires-clause-names g c = c.args.ready.now.names
 
-pub try_atomically-requires-clause-shapes : goal.try_atomically-requires-clause-shapes
-try_atomically-requires-clause-shapes g c = c.args.ready.now.shapes
+pub try_atomically-requires-clause-signatures : goal.try_atomically-requires-clause-signatures
+try_atomically-requires-clause-signatures g c = c.args.ready.now.signatures
 
 pub returns-in-Ok-clause-knows : goal.returns-in-Ok-clause-knows
 returns-in-Ok-clause-knows g c = tt

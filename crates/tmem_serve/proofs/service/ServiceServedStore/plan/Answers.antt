@@ -7,5 +7,5 @@ invariant_of-result g c = record {
   steps = subst (λ (l : List ℕ). FitsSteps l c.in-Ok.plan.tree) c.args.self.now.arities c.in-Ok.ensures.steps;
   variables = subst (λ (n : ℕ). FitsVariables n c.in-Ok.plan) c.args.self.now.front.now.over c.in-Ok.ensures.variables;
   names = c.in-Ok.ensures.names;
-  shapes = c.in-Ok.ensures.shapes;
+  signatures = c.in-Ok.ensures.signatures;
 }

@@ -1,6 +1,6 @@
 use Rattle.std.proofs.Common.{ℕ, arith, sym, ◌∙◌, subst}
 use Rattle.atomic_table.specs.Table.{Me}
-use Rattle.tmem_spine.specs.declared.view.View.{View}
+use Rattle.tmem_spine.specs.declared.view.SeatView.{SeatView}
 use Rattle.tmem_spine.proofs.Noted.{meets_journal_note}
 use Rattle.tmem_spine.proofs.Owning.{pass_more}
 use Rattle.tmem_spine.specs.Rule.{IsPass}
@@ -15,5 +15,5 @@ join_seat-requires g c =
 
 pub returns-clause-is_pass : goal.returns-clause-is_pass
 returns-clause-is_pass g c =
-    subst (λ (m : Me ℕ View). IsPass g.N.Naming.name.start m.0) (sym c.join_seat.ensures.2)
+    subst (λ (m : Me ℕ SeatView). IsPass g.N.Naming.name.start m.0) (sym c.join_seat.ensures.2)
     (pass_more g.N.Naming.name.start c.pass.inside.seat.me.0 (longer c.pass.inside.seat.me.0.known c.note.inside.seat.me.0.known) (rw c.pass.view_is c.requires.is_pass) (rw (c.pass.view_is, c.note.view_is) c.requires.begins))

@@ -9,5 +9,5 @@ attempt-requires-clause-variables g c = c.requires.variables
 pub attempt-requires-clause-names : goal.attempt-requires-clause-names
 attempt-requires-clause-names g c = c.requires.names
 
-pub attempt-requires-clause-shapes : goal.attempt-requires-clause-shapes
-attempt-requires-clause-shapes g c = c.requires.shapes
+pub attempt-requires-clause-signatures : goal.attempt-requires-clause-signatures
+attempt-requires-clause-signatures g c = c.requires.signatures

@@ -9,8 +9,8 @@ attempt_and_settle-requires-clause-variables g c = c.requires.variables
 pub attempt_and_settle-requires-clause-names : goal.attempt_and_settle-requires-clause-names
 attempt_and_settle-requires-clause-names g c = c.requires.names
 
-pub attempt_and_settle-requires-clause-shapes : goal.attempt_and_settle-requires-clause-shapes
-attempt_and_settle-requires-clause-shapes g c = c.requires.shapes
+pub attempt_and_settle-requires-clause-signatures : goal.attempt_and_settle-requires-clause-signatures
+attempt_and_settle-requires-clause-signatures g c = c.requires.signatures
 
 pub try_atomically-requires-clause-steps : goal.try_atomically-requires-clause-steps
 try_atomically-requires-clause-steps g c = c.requires.steps
@@ -21,8 +21,8 @@ try_atomically-requires-clause-variables g c = c.requires.variables
 pub try_atomically-requires-clause-names : goal.try_atomically-requires-clause-names
 try_atomically-requires-clause-names g c = c.requires.names
 
-pub try_atomically-requires-clause-shapes : goal.try_atomically-requires-clause-shapes
-try_atomically-requires-clause-shapes g c = c.requires.shapes
+pub try_atomically-requires-clause-signatures : goal.try_atomically-requires-clause-signatures
+try_atomically-requires-clause-signatures g c = c.requires.signatures
 
 pub atomically-requires-clause-steps : goal.atomically-requires-clause-steps
 atomically-requires-clause-steps g c = c.requires.steps
@@ -33,8 +33,8 @@ atomically-requires-clause-variables g c = c.requires.variables
 pub atomically-requires-clause-names : goal.atomically-requires-clause-names
 atomically-requires-clause-names g c = c.requires.names
 
-pub atomically-requires-clause-shapes : goal.atomically-requires-clause-shapes
-atomically-requires-clause-shapes g c = c.requires.shapes
+pub atomically-requires-clause-signatures : goal.atomically-requires-clause-signatures
+atomically-requires-clause-signatures g c = c.requires.signatures
 
 pub atomically_within-requires-clause-steps : goal.atomically_within-requires-clause-steps
 atomically_within-requires-clause-steps g c = c.requires.steps
@@ -45,8 +45,8 @@ atomically_within-requires-clause-variables g c = c.requires.variables
 pub atomically_within-requires-clause-names : goal.atomically_within-requires-clause-names
 atomically_within-requires-clause-names g c = c.requires.names
 
-pub atomically_within-requires-clause-shapes : goal.atomically_within-requires-clause-shapes
-atomically_within-requires-clause-shapes g c = c.requires.shapes
+pub atomically_within-requires-clause-signatures : goal.atomically_within-requires-clause-signatures
+atomically_within-requires-clause-signatures g c = c.requires.signatures
 
 pub atomically_with_room-requires-clause-steps : goal.atomically_with_room-requires-clause-steps
 atomically_with_room-requires-clause-steps g c = c.requires.steps
@@ -57,8 +57,8 @@ atomically_with_room-requires-clause-variables g c = c.requires.variables
 pub atomically_with_room-requires-clause-names : goal.atomically_with_room-requires-clause-names
 atomically_with_room-requires-clause-names g c = c.requires.names
 
-pub atomically_with_room-requires-clause-shapes : goal.atomically_with_room-requires-clause-shapes
-atomically_with_room-requires-clause-shapes g c = c.requires.shapes
+pub atomically_with_room-requires-clause-signatures : goal.atomically_with_room-requires-clause-signatures
+atomically_with_room-requires-clause-signatures g c = c.requires.signatures
 
 pub commit_durable-requires-clause-steps : goal.commit_durable-requires-clause-steps
 commit_durable-requires-clause-steps g c = c.requires.steps
@@ -69,5 +69,5 @@ commit_durable-requires-clause-variables g c = c.requires.variables
 pub commit_durable-requires-clause-names : goal.commit_durable-requires-clause-names
 commit_durable-requires-clause-names g c = c.requires.names
 
-pub commit_durable-requires-clause-shapes : goal.commit_durable-requires-clause-shapes
-commit_durable-requires-clause-shapes g c = c.requires.shapes
+pub commit_durable-requires-clause-signatures : goal.commit_durable-requires-clause-signatures
+commit_durable-requires-clause-signatures g c = c.requires.signatures

@@ -1,7 +1,7 @@
 use Rattle.std.proofs.Common.{List, length, length-append, refl, ap, arith}
 use Rattle.std.proofs.lemmas.List.{length-replicate}
 use Rattle.std.specs.Prelude.{Result, Ok, Err, IfErr}
-use Rattle.tmem_tree.specs.Shapes.{footprint_in}
+use Rattle.tmem_tree.specs.Signatures.{footprint_in}
 use Rattle.tmem_tentative.specs.declared.save.Save.{Save}
 use Rattle.tmem_tentative.specs.Places.{place_at}
 use Rattle.tmem_tentative.specs.Cursors.{IsAt, StandsIn}
@@ -13,7 +13,7 @@ use Rattle.tmem_tentative.proofs.cursor.Cursor.restart.Goals as goal
 pub returns-clause-stands : goal.returns-clause-stands
 returns-clause-stands c = λ m.
     let long = simp (length-append, length-replicate) at (ap (λ (l : List Save). length l) c.in_ok-make_room.ensures.added) in
-    start_stands m (footprint_in c.args.plan.now.shapes) c.args.plan.now.tree _ _ _ c.clear-2.ensures refl c.clear.ensures c.none.ensures c.truncate.ensures.entries refl (omega (arith, long)) c.make_room.ensures.limits
+    start_stands m (footprint_in c.args.plan.now.signatures) c.args.plan.now.tree _ _ _ c.clear-2.ensures refl c.clear.ensures c.none.ensures c.truncate.ensures.entries refl (omega (arith, long)) c.make_room.ensures.limits
 
 pub returns-clause-at : goal.returns-clause-at
 returns-clause-at c = λ m tests.

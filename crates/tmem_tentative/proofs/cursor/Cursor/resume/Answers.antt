@@ -26,4 +26,4 @@ returns-clause-named g c = λ names fits.
 pub returns-clause-filled : goal.returns-clause-filled
 returns-clause-filled g c =
     let copy : Attempt = record c.advance.new.self.course.attempt { reads = c.in_ok-reads.reads } in
-    rw c.outcome.ensures (handed_filled c.advance.new.self copy (c.in_ok-reads.ensures ∙ sym c.advance.ensures.given) refl refl refl c.args.plan.now.shapes c.in_ok-progress.progress c.in_ok-progress.ensures.filled)
+    rw c.outcome.ensures (handed_filled c.advance.new.self copy (c.in_ok-reads.ensures ∙ sym c.advance.ensures.given) refl refl refl c.args.plan.now.signatures c.in_ok-progress.progress c.in_ok-progress.ensures.filled)

@@ -1,5 +1,5 @@
 use Rattle.std.proofs.Common.{◌∙◌, sym}
-use Rattle.tmem_tree.proofs.Alike.{alike_by, limits_kept, short_kept, steps_kept, variables_kept, names_kept, still_shaped}
+use Rattle.tmem_tree.proofs.Alike.{alike_by, limits_kept, short_kept, steps_kept, variables_kept, names_kept, still_covered}
 use Rattle.tmem_tree.proofs.plan.Plan.set_number.Goals as goal
 
 pub invariant_of-self : goal.invariant_of-self
@@ -8,7 +8,7 @@ invariant_of-self c =
     let was = c.self.invariant in
     record {
       limits = limits_kept same was.limits;
-      shaped = still_shaped same _ was.shaped;
+      covered = still_covered same _ was.covered;
       choices = was.choices ∙ sym same.choices;
       short = (λ yes. (short_kept same).1 (was.short.0 yes), λ short. was.short.1 ((short_kept same).0 short));
     }
@@ -18,7 +18,7 @@ returns-clause-steps c = rw (← c.self.view_is) (steps_kept (alike_by _ _ c.sel
 
 pub returns-clause-variables : goal.returns-clause-variables
 returns-clause-variables c =
-    rw (← c.self.view_is) (λ vars. variables_kept (alike_by _ _ c.self.inside.tx _ c.change_number.ensures.tree) vars c.self.inside.shapes)
+    rw (← c.self.view_is) (λ vars. variables_kept (alike_by _ _ c.self.inside.tx _ c.change_number.ensures.tree) vars c.self.inside.signatures)
 
 pub returns-clause-names : goal.returns-clause-names
 returns-clause-names c = rw (← c.self.view_is) (names_kept (alike_by _ _ c.self.inside.tx _ c.change_number.ensures.tree))

@@ -5,7 +5,7 @@ use Rattle.tmem_fault.specs.declared.fault.Fault.{Fault}
 use Rattle.tmem_invariants.specs.Meanings.{Meanings}
 use Rattle.tmem_tree.specs.declared.tx.Tx.{Tx}
 use Rattle.tmem_tree.specs.Plans.{PlanView, BreaksNone, IsLeastBroken, FitsSteps, FitsNames}
-use Rattle.tmem_tree.specs.Shapes.{AreMeant, AreWithin, names_of}
+use Rattle.tmem_tree.specs.Signatures.{AreMeant, AreWithin, names_of}
 use Rattle.tmem_tentative.specs.Cursors.{IsAt}
 use Rattle.tmem_world.specs.Attempts.{FitsAttempt}
 use Rattle.tmem_world.specs.WorldModel.{holding, attempt_at, Begun, IsPlanFault}
@@ -60,16 +60,16 @@ invariant_of-self-2 g c =
     let w = c.args.self.now in
     let arities = g.S.StoredSteps.arities w.steps in
     let stated = g.S.StoredSteps.is_stated w.steps in
-    let known = names_of w.shapes.items in
-    let tested : Meanings → Type 0 = λ tests. AreMeant tests w.shapes.items in
+    let known = names_of w.signatures.items in
+    let tested : Meanings → Type 0 = λ tests. AreMeant tests w.signatures.items in
     let so = c.in-Ok.ensures in
     let is = so.plan in
     let now = c.begin.ensures in
     let named = subst (λ (ns : List (List ℕ)). FitsNames ns c.args.tx) (ap names_of c.deref.ensures.value) so.names in
-    let shapes = λ (tests : Meanings) (asked : tested tests). so.shapes tests (subst (AreMeant tests) (sym c.deref.ensures.value) asked) in
+    let signatures = λ (tests : Meanings) (asked : tested tests). so.signatures tests (subst (AreMeant tests) (sym c.deref.ensures.value) asked) in
     let variables = so.variables (subst (AreWithin w.layout.vars) (sym c.deref.ensures.value) w.within) in
     let held : FitsAttempt w.layout.vars arities stated known tested c.index_mut.result.now = subst (FitsAttempt w.layout.vars arities stated known tested) (sym c.index_mut.ensures.value) (w.fit c.args.attempt c.index_mut.result.now (omega (arith, w.sized))) in
-    let fits = begun_fits w.layout.vars arities stated known tested c.in-Ok.plan c.index_mut.result.now c.begin.new.self c.begin.result variables (subst (FitsSteps arities) (sym is) so.steps) (subst (FitsNames known) (sym is) named) shapes now.plan now.stands now.going now.same now.stays held in
+    let fits = begun_fits w.layout.vars arities stated known tested c.in-Ok.plan c.index_mut.result.now c.begin.new.self c.begin.result variables (subst (FitsSteps arities) (sym is) so.steps) (subst (FitsNames known) (sym is) named) signatures now.plan now.stands now.going now.same now.stays held in
     record {
       sized = length-set w.attempts.items c.args.attempt c.begin.new.self ∙ w.sized;
       here = w.here;

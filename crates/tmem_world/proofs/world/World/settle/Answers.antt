@@ -2,7 +2,7 @@ use Rattle.std.proofs.Common.{rules, ◌≡◌, refl, sym, ◌∙◌, ap, subst,
 use Rattle.std.specs.Prelude.{Some}
 use Rattle.std.proofs.lemmas.List.Elements.{All-set}
 use Rattle.tmem_journal.specs.Held as journal
-use Rattle.tmem_tree.specs.Shapes.{AreMeant, names_of}
+use Rattle.tmem_tree.specs.Signatures.{AreMeant, names_of}
 use Rattle.tmem_world.specs.declared.held.Held.TheVariants.{With}
 use Rattle.tmem_world.specs.Parts.{held_disk, table_in}
 use Rattle.tmem_world.specs.WorldModel.{attempt_at}
@@ -17,7 +17,7 @@ use Rattle.tmem_world.proofs.world.World.settle.Goals as goal
 pub invariant_of-self-clause-fit : goal.invariant_of-self-clause-fit
 invariant_of-self-clause-fit g c =
     let w = c.args.self.now in
-    let Fits = FitsAttempt w.layout.vars (g.S.StoredSteps.arities w.steps) (g.S.StoredSteps.is_stated w.steps) (names_of w.shapes.items) (λ tests. AreMeant tests w.shapes.items) in
+    let Fits = FitsAttempt w.layout.vars (g.S.StoredSteps.arities w.steps) (g.S.StoredSteps.is_stated w.steps) (names_of w.signatures.items) (λ tests. AreMeant tests w.signatures.items) in
     All-set Fits w.attempts.items c.args.attempt c.settle_attempt.new.held (settles_fit _ _ _ _ _ _ _ _ _ _ c.settle_attempt.ensures.settled (slot_fits w c.args.attempt c.index_mut.result.now c.requires c.index_mut.ensures.value)) w.fit
 
 pub invariant_of-self-clause-meant : goal.invariant_of-self-clause-meant

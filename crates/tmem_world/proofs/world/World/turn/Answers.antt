@@ -3,7 +3,7 @@ use Rattle.std.specs.Prelude.{Some}
 use Rattle.std.proofs.lemmas.List.Elements.{All-set}
 use Rattle.tmem_core.specs.Held.{core_state, core_table}
 use Rattle.tmem_invariants.specs.Meanings.{Meanings}
-use Rattle.tmem_tree.specs.Shapes.{AreMeant, names_of}
+use Rattle.tmem_tree.specs.Signatures.{AreMeant, names_of}
 use Rattle.tmem_world.specs.declared.held.Held.TheVariants.{With}
 use Rattle.tmem_world.specs.Attempts.{FitsAttempt}
 use Rattle.tmem_world.specs.WorldModel.{holding, attempt_at}
@@ -26,8 +26,8 @@ invariant_of-self g c =
     let w = c.args.self.now in
     let o = c.in-Some-With.both in
     let before : held_of w ≡ With o = held_is w.held w.here (With o) (search rules) in
-    let known = names_of w.shapes.items in
-    let tested : Meanings → Type 0 = λ tests. AreMeant tests w.shapes.items in
+    let known = names_of w.signatures.items in
+    let tested : Meanings → Type 0 = λ tests. AreMeant tests w.signatures.items in
     let Fits = FitsAttempt w.layout.vars (g.S.StoredSteps.arities w.steps) (g.S.StoredSteps.is_stated w.steps) known tested in
     record {
       sized = length-set w.attempts.items c.args.attempt c.turn.new.self ∙ w.sized;
@@ -37,7 +37,7 @@ invariant_of-self g c =
       named = w.named;
       meant = w.meant;
       within = w.within;
-      fit = All-set Fits w.attempts.items c.args.attempt c.turn.new.self (fits_after w o before c.index_mut.result.now c.turn.new.self (slot_fits w c.args.attempt c.index_mut.result.now c.requires c.index_mut.ensures.value) (c.turn.ensures.fits w.shapes.items)) w.fit;
+      fit = All-set Fits w.attempts.items c.args.attempt c.turn.new.self (fits_after w o before c.index_mut.result.now c.turn.new.self (slot_fits w c.args.attempt c.index_mut.result.now c.requires c.index_mut.ensures.value) (c.turn.ensures.fits w.signatures.items)) w.fit;
     }
 
 pub returns-in-Some-With : goal.returns-in-Some-With
