@@ -1,6 +1,6 @@
-//! Stores for one thread, tables of invariants, passes, and threads that share a store, by calls.
+//! Stores that threads share, by scenes and by calls.
 //!
-//! A crate of tests alone. They stand above the front and the world, so that these are proved by themselves.
+//! A crate of tests alone. They stand above the front, so that it is proved by itself.
 #![tactic(auto)]
 
 #[cfg(test)]

@@ -1,6 +1,4 @@
-//! Scenes that threads play on a front; and by calls, a store for one thread, its tables of invariants, and a front by one caller.
-mod built;
-mod crashes;
+//! Scenes that threads play on a front; and by calls, a front by one caller.
 mod endings;
 mod failures;
 mod flushers;
@@ -8,7 +6,6 @@ mod fronts;
 mod holds;
 mod limits;
 mod moves;
-mod names;
 mod no_closures;
 mod nodes;
 mod otherwise;
@@ -16,7 +13,6 @@ mod paces;
 mod passes;
 mod playing;
 mod pool;
-mod releases;
 mod room;
 mod scenes;
 mod signals;
@@ -24,13 +20,8 @@ mod skipping;
 mod stage;
 mod stage_disk;
 mod store;
-mod store_limits;
-mod sums;
-mod tables;
 mod threads;
 mod turns;
 mod values;
 mod wakings;
 mod words;
-mod world_turns;
-mod worlds;

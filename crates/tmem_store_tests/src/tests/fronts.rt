@@ -5,8 +5,8 @@ ghost use Rattle.tmem_front.specs.Held.{front_found, spine_of, front_steps, fron
 ghost use Rattle.tmem_store_tests.specs.Programs.{checked_program};
 
 use super::nodes::{Node, or_else, push_all, seq, when};
+use super::stage_disk::formatted;
 use super::store::{Asks, Call, Caller, Settles};
-use super::worlds::formatted;
 use std::alloc::{AllocError, Global};
 use std::marker::Brand;
 use std::process::Abort;
@@ -20,8 +20,7 @@ use tmem_fault::Fault;
 use tmem_front::{OpenedFront, StoreNaming};
 use tmem_invariants::Invariants;
 use tmem_tables::{Invariant, Table};
-use tmem_tree::{StoredSteps, Tx};
-use tmem_world::Settled;
+use tmem_tree::{Settled, StoredSteps, Tx};
 
 const ALL: &[Call] = &[
     Call::AttemptAndSettle,

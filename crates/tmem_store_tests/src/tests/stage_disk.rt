@@ -1,11 +1,22 @@
-//! A device whose syncs take a while, or are held.
+//! Devices: one that holds nothing yet, and one whose syncs take a while, or are held.
 ghost use Rattle.std.specs.Prelude.{◌≡◌};
 
 use super::signals::Signals;
+use std::alloc::Global;
 use std::rt::Clock;
 use std::thread;
 use std::time::Duration;
-use tmem_disk::{DeviceFault, Disk};
+use tmem_disk::{DeviceFault, Disk, SimDisk};
+use tmem_fault::Fault;
+use tmem_journal::{Layout, format};
+
+/// A device of so many variables and slots that holds nothing yet.
+pub(super) fn formatted(alloc: Global, vars: u16, slots: u16) -> Result<SimDisk, Fault> {
+    let layout = Layout::new(vars, slots)?;
+    let mut disk = SimDisk::new(alloc, layout.end())?;
+    format(&mut disk, vars, slots)?;
+    Ok(disk)
+}
 
 /// A device round another.
 #[derive(Drop)]

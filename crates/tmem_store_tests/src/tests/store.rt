@@ -20,8 +20,7 @@ use tmem_fault::{Fault, Name};
 use tmem_front::{Front, LogCounts, Pace, Pass, StoreNaming};
 use tmem_invariants::Invariants;
 use tmem_tentative::Attempt;
-use tmem_tree::{Plan, StoredSteps, Tx};
-use tmem_world::Settled;
+use tmem_tree::{Plan, Settled, StoredSteps, Tx};
 
 /// A call that settles a transaction, or an attempt with its settle.
 #[derive(Clone, Copy, Debug)]

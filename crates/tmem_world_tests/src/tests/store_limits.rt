@@ -1,7 +1,7 @@
 //! A store at its limits: 1024 variables, 64 log slots, 64 records in a batch, and 64 invariants over sixteen variables each, all of
 //! them registered. It is found again by each call that opens one. And the batch of 64 records by itself.
 ghost use Rattle.std.specs.Prelude.{◌≡◌, length};
-ghost use Rattle.tmem_store_tests.specs.Programs.{is_last_not_negative};
+ghost use Rattle.tmem_world_tests.specs.Programs.{is_last_not_negative};
 
 use super::names::{Use, add, commit_all, has_all, has_none, numbered, variables_of};
 use super::worlds::{Played, commit_to, formatted, step_to, write, write_to};

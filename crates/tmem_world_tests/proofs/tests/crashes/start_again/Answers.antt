@@ -1,6 +1,6 @@
 use Rattle.std.proofs.Common.{List, ℕ, sym, subst, arith}
 use Rattle.tmem_disk.specs.SimParts.{sim_view, sim_is_device}
-use Rattle.tmem_store_tests.proofs.tests.crashes.start_again.Goals as goal
+use Rattle.tmem_world_tests.proofs.tests.crashes.start_again.Goals as goal
 
 pub returns : goal.returns
 returns c = λ program vars slots h store.

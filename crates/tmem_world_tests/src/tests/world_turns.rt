@@ -1,6 +1,6 @@
 //! An evaluation of as many turns as there may be, over invariants with footprints of their own, and the signatures of their table.
 ghost use Rattle.std.specs.Prelude.{◌≡◌, ◌≤◌, length};
-ghost use Rattle.tmem_store_tests.specs.Programs.{is_last_not_negative};
+ghost use Rattle.tmem_world_tests.specs.Programs.{is_last_not_negative};
 
 use super::names::{add, numbered, variables_of};
 use super::worlds::{Played, committed, opened};

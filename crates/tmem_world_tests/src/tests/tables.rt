@@ -1,6 +1,6 @@
 //! A table of as many invariants as there may be: which ones are tested where a variable is written, and which one is named.
 ghost use Rattle.std.specs.Prelude.{◌≡◌, length};
-ghost use Rattle.tmem_store_tests.specs.Programs.{is_sum_not_negative};
+ghost use Rattle.tmem_world_tests.specs.Programs.{is_sum_not_negative};
 
 use super::names::add;
 use std::alloc::Global;
